@@ -5,29 +5,8 @@ use Rattle.ruby_value.specs.declared.value.Block.{Block}
 use Rattle.ruby_value.specs.declared.value.Ref.{Ref}
 use Rattle.ruby_value.specs.declared.value.Value.{Value}
 use Rattle.ctl_face.specs.declared.trouble.Trouble.{Trouble}
-use Rattle.ctl_face.specs.Again.{again}
-use Rattle.ctl_face.specs.Allocate.{allocate}
-use Rattle.ctl_face.specs.Avail.{avail, probe}
-use Rattle.ctl_face.specs.Callback.{block_after_write, read_back, write_back}
-use Rattle.ctl_face.specs.Deallocate.{deallocate}
-use Rattle.ctl_face.specs.Does.{Does, DoesWith, Reads}
-use Rattle.ctl_face.specs.Enqueue.{enqueue}
-use Rattle.ctl_face.specs.Free.{free}
-use Rattle.ctl_face.specs.Get.{get}
-use Rattle.ctl_face.specs.LocalView.{LocalView}
-use Rattle.ctl_face.specs.Lookup.{lookup, reference_to}
-use Rattle.ctl_face.specs.Pop.{pop}
-use Rattle.ctl_face.specs.Ready.{ready, required_front}
-use Rattle.ctl_face.specs.Recycle.{recycle}
-use Rattle.ctl_face.specs.Set.{set}
-use Rattle.ctl_face.specs.Stall.{stall}
-use Rattle.ctl_face.specs.State.{set_state, state}
-use Rattle.ctl_face.specs.Touch.{touch}
-use Rattle.ctl_face.specs.Wake.{wake, wake_all}
-use Rattle.acts.specs.Act.{Now, Me, Get, Set, Lookup, Avail, Probe, Allocate, Deallocate, Touch, Free, Ready, Front, Pop, Stall, Wake, WakeAll, Recycle, Send, ReadBack, WriteBack, State, SetState, Again}
-use Rattle.acts.specs.Acting.{act}
-use Rattle.acts.specs.DoesAs.{DoesAs, itself}
-use Rattle.acts.specs.Serves.{serves}
+use Rattle.ctl_face.specs.Prelude.{again, allocate, avail, probe, block_after_write, read_back, write_back, deallocate, Does, DoesWith, Reads, enqueue, free, get, LocalView, lookup, reference_to, pop, ready, required_front, recycle, set, stall, set_state, state, touch, wake, wake_all}
+use Rattle.acts.specs.Prelude.{Now, Me, Get, Set, Lookup, Avail, Probe, Allocate, Deallocate, Touch, Free, Ready, Front, Pop, Stall, Wake, WakeAll, Recycle, Send, ReadBack, WriteBack, State, SetState, Again, act, DoesAs, itself, serves}
 use Rattle.acts.proofs.Served.{changes_does, not_served_does, reads_does}
 
 module _ (v : LocalView) where

@@ -15,43 +15,12 @@ use Rattle.ruby_value.specs.declared.setup.MachineSetup.{MachineSetup}
 use Rattle.ruby_value.specs.declared.value.Block.{Block}
 use Rattle.ruby_value.specs.declared.value.Ref.{Ref}
 use Rattle.ruby_value.specs.declared.value.Value.{Value}
-use Rattle.ruby_value.specs.Ascending.{with_mark}
-use Rattle.ruby_value.specs.Available.{available}
-use Rattle.ruby_value.specs.FieldsOf.{fields_of}
-use Rattle.ruby_value.specs.MadeRecent.{made_recent}
-use Rattle.ruby_value.specs.NumberBefore.{same_number}
-use Rattle.ruby_value.specs.SetOf.{set_of}
-use Rattle.ruby_value.specs.WithoutLine.{without_line}
-use Rattle.ruby_value.specs.WithSet.{with_set}
-use Rattle.ctl_face.specs.Acts.{Acts}
-use Rattle.ctl_face.specs.Again.{again}
-use Rattle.ctl_face.specs.Allocate.{allocate, with_line}
-use Rattle.ctl_face.specs.AtFront.{after_front, at_front}
-use Rattle.ctl_face.specs.Callback.{after_callback, called_back, read_back, write_back}
+use Rattle.ruby_value.specs.Prelude.{with_mark, available, fields_of, made_recent, same_number, set_of, without_line, with_set, Requests}
+use Rattle.ctl_face.specs.Prelude.{Acts, again, allocate, with_line, after_front, at_front, after_callback, called_back, read_back, write_back, InboxMessage, Mail, deallocate, without_line_in, after_sending, enqueue, fields_in, is_latency, Actor, LocalView, SameScan, initial_fields, mail_without, pop, front_now, mail_with_recycled, message_arriving_again, recycle, receiving_buffer, Sending, copy_limit, local_copy, no_copies, receivers_of, send, sending_from, sending_on, with_network_copy, set, table_with_field, mail_with_waiting, message_waiting_under, stall, set_state, Table, CacheTable, DirectoryTable, TbeTable, ParameterTable, after_change, change_if_there, changed_table, table_at, touch, used_line, message_waiting_no_longer, with_woken}
 use Rattle.ruby_value.specs.declared.asked.BackFault.{BackFault}
 use Rattle.ruby_value.specs.Callback as callback
-use Rattle.ctl_face.specs.Ctl.{InboxMessage, Mail}
-use Rattle.ruby_value.specs.Requests.{Requests}
-use Rattle.ctl_face.specs.Deallocate.{deallocate, without_line_in}
-use Rattle.ctl_face.specs.Enqueue.{after_sending, enqueue}
-use Rattle.ctl_face.specs.FieldsIn.{fields_in}
-use Rattle.ctl_face.specs.Latency.{is_latency}
-use Rattle.ctl_face.specs.LocalView.{Actor, LocalView, SameScan}
-use Rattle.ctl_face.specs.OfMachine.{initial_fields}
-use Rattle.ctl_face.specs.Pop.{mail_without, pop}
-use Rattle.ctl_face.specs.Ready.{front_now}
-use Rattle.ctl_face.specs.Recycle.{mail_with_recycled, message_arriving_again, recycle}
-use Rattle.ctl_face.specs.Routing.{receiving_buffer}
-use Rattle.ctl_face.specs.Send.{Sending, copy_limit, local_copy, no_copies, receivers_of, send, sending_from, sending_on, with_network_copy}
-use Rattle.ctl_face.specs.Set.{set as set_field, table_with_field}
-use Rattle.ctl_face.specs.Stall.{mail_with_waiting, message_waiting_under, stall}
-use Rattle.ctl_face.specs.State.{set_state}
-use Rattle.ctl_face.specs.Table.{Table, CacheTable, DirectoryTable, TbeTable, ParameterTable}
-use Rattle.ctl_face.specs.Tables.{after_change, change_if_there, changed_table, table_at}
-use Rattle.ctl_face.specs.Touch.{touch, used_line}
-use Rattle.ctl_face.specs.Wake.{message_waiting_no_longer, with_woken}
 use Rattle.ctl_face.proofs.Arrivals.{positive}
-use Rattle.acts.specs.Kept.{AreMarked, CountsStay, IsMarked, KeepsMarks, MarksStay}
+use Rattle.acts.specs.Prelude.{AreMarked, CountsStay, IsMarked, KeepsMarks, MarksStay}
 use Rattle.acts.proofs.Marks.{has_itself, marked_map, marked_put, marked_with, marked_without, marks_kept, marks_with, sent_is}
 
 -- a fault that isn't `invalid`, if it is one
@@ -96,7 +65,7 @@ module _ (v : LocalView) where
       go None = elsewhere v.ctl.tables v.ctl.states v.ctl.sequencer
       go (Some t) = after_table table (change t) (valid t)
 
-  pub set_effect : (r : Ref) (field : ℕ) (value : Value) → Effect v (set_field v r field value)
+  pub set_effect : (r : Ref) (field : ℕ) (value : Value) → Effect v (set v r field value)
   set_effect r field value = table_effect r.table (λ t. table_with_field t r.line field value (fields_in t r.line)) (λ t. go t (fields_in t r.line))
     where
       go : (t : Table) (o : Option (List Value)) → NotInvalid (table_with_field t r.line field value o)

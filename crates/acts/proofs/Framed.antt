@@ -10,39 +10,13 @@ use Rattle.ruby_value.specs.declared.fault.Fault.{Fault}
 use Rattle.ruby_value.specs.declared.fault.Fault.TheVariants.{Front as NoFront}
 use Rattle.ruby_value.specs.declared.message.Message.{Message}
 use Rattle.ruby_value.specs.declared.message.MsgNo.{MsgNo}
-use Rattle.ruby_value.specs.NumberBefore.{number_before, same_number}
-use Rattle.ruby_value.specs.Ascending.{with_mark}
+use Rattle.ruby_value.specs.Prelude.{number_before, same_number, with_mark, numbers_from}
 use Rattle.ruby_value.specs.declared.message.Sent.{Sent}
-use Rattle.ctl_face.specs.Allocate.{allocate, with_line}
-use Rattle.ctl_face.specs.Avail.{probe}
-use Rattle.ctl_face.specs.Callback.{block_after_write, read_back, write_back}
-use Rattle.ctl_face.specs.Ctl.{Ctl, InboxMessage}
-use Rattle.ctl_face.specs.Deallocate.{deallocate, without_line_in}
-use Rattle.ctl_face.specs.Enqueue.{enqueue}
-use Rattle.ctl_face.specs.FieldsIn.{fields_in}
-use Rattle.ctl_face.specs.Fits.{IsLawful, NumbersAscend}
-use Rattle.ctl_face.specs.Get.{get}
+use Rattle.ctl_face.specs.Prelude.{allocate, with_line, probe, block_after_write, read_back, write_back, Ctl, InboxMessage, deallocate, without_line_in, enqueue, fields_in, IsLawful, NumbersAscend, get, Actor, LocalView, SameScan, reference_to, incoming_message, initial_fields, pop, required_front, recycle, set, table_with_field, stall, touch, used_line, is_under}
 use Rattle.ctl_face.specs.Inbox.{with_message}
-use Rattle.ctl_face.specs.LocalView.{Actor, LocalView, SameScan}
-use Rattle.ctl_face.specs.Lookup.{reference_to}
-use Rattle.ctl_face.specs.Mailing.{incoming_message}
-use Rattle.ctl_face.specs.OfMachine.{initial_fields}
-use Rattle.ctl_face.specs.Pop.{pop}
-use Rattle.ctl_face.specs.Ready.{required_front}
-use Rattle.ctl_face.specs.Recycle.{recycle}
-use Rattle.ruby_value.specs.NumbersFrom.{numbers_from}
-use Rattle.ctl_face.specs.Set.{set as set_field, table_with_field}
-use Rattle.ctl_face.specs.Stall.{stall}
-use Rattle.ctl_face.specs.Touch.{touch, used_line}
-use Rattle.ctl_face.specs.Wake.{is_under}
 use Rattle.ctl_face.proofs.Inboxes.{ascend-with}
-use Rattle.acts.specs.Act.{Act, Now, Me, Get, Set, Lookup, Avail, Probe, Allocate, Deallocate, Touch, Free, Ready, Front, Pop, Stall, Wake, WakeAll, Recycle, Send, ReadBack, WriteBack, State, SetState, Again}
-use Rattle.acts.specs.Acting.{Acting, run}
-use Rattle.acts.specs.After.{Agrees, HoldsAfter}
-use Rattle.acts.specs.Done.{Done, changes, does_served, reads}
-use Rattle.acts.specs.Serves.{serves}
+use Rattle.acts.specs.Prelude.{Act, Now, Me, Get, Set, Lookup, Avail, Probe, Allocate, Deallocate, Touch, Free, Ready, Front, Pop, Stall, Wake, WakeAll, Recycle, Send, ReadBack, WriteBack, State, SetState, Again, Acting, run, Agrees, HoldsAfter, Done, changes, does_served, reads, serves, Added, AreNew, IsNew, after_adding, with_added}
 use Rattle.acts.proofs.Laws.{agrees_where_served, all_agrees}
-use Rattle.acts.specs.Added.{Added, AreNew, IsNew, after_adding, with_added}
 use Rattle.acts.proofs.Frames.{Passes, after_done, again_moved, changes_moved, enqueue_moved, front_moved, moved, pop_moved, read_moved, reads_moved, recycle_moved, stall_moved, table_moved, wake_moved, write_moved}
 use Rattle.acts.proofs.Later.{mark_passes, message_passes, not_same, same_is_not}
 use Rattle.acts.proofs.Lawful.{lawful_act}
@@ -58,7 +32,7 @@ module _ (f : List InboxMessage → List InboxMessage) (g : List ℕ → List �
   act_moved Me = refl
   act_moved (Get r field) = reads_moved (moved f g) v (get v r field)
   act_moved (Set r field value) =
-      changes_moved (moved f g) v tt (set_field v r field value) (set_field (moved f g v) r field value) (table_moved f g v r.table (λ t. table_with_field t r.line field value (fields_in t r.line)))
+      changes_moved (moved f g) v tt (set v r field value) (set (moved f g v) r field value) (table_moved f g v r.table (λ t. table_with_field t r.line field value (fields_in t r.line)))
   act_moved (Lookup table line) = refl
   act_moved (Avail table line) = refl
   act_moved (Probe table line) = reads_moved (moved f g) v (probe v table line)

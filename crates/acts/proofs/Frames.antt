@@ -11,34 +11,15 @@ use Rattle.ruby_value.specs.declared.setup.BufferPlace.TheVariants as place
 use Rattle.ruby_value.specs.declared.setup.BufferSetup.{BufferSetup}
 use Rattle.ruby_value.specs.declared.value.Block.{Block}
 use Rattle.ruby_value.specs.declared.value.Value.{Value}
-use Rattle.ruby_value.specs.Ascending.{with_mark}
+use Rattle.ruby_value.specs.Prelude.{with_mark, Requests}
 use Rattle.ruby_value.specs.Front as general
-use Rattle.ctl_face.specs.Acts.{Acts}
-use Rattle.ctl_face.specs.Again.{again}
-use Rattle.ctl_face.specs.AtFront.{after_front, at_front}
-use Rattle.ctl_face.specs.Callback.{after_callback, called_back, read_back, write_back}
+use Rattle.ctl_face.specs.Prelude.{Acts, again, after_front, at_front, after_callback, called_back, read_back, write_back, InboxMessage, Mail, after_sending, enqueue, IsFront, is_ready, changed_message, without_message, is_latency, LocalView, incoming_message, mail_with_delivery, mail_without, pop, front_now, mail_with_recycled, message_arriving_again, recycle, receiving_buffer, Sending, after_network_copy, copy_limit, local_arrival, local_copy, network_arrival, next_copy, no_copies, receivers_of, send, sending_from, sending_on, with_network_copy, mail_with_waiting, message_waiting_under, stall, Table, after_change, change_if_there, changed_table, table_at, message_waiting_no_longer, with_woken}
 use Rattle.ruby_value.specs.declared.asked.BackFault.{BackFault}
 use Rattle.ruby_value.specs.Callback as callback
-use Rattle.ctl_face.specs.Ctl.{InboxMessage, Mail}
-use Rattle.ruby_value.specs.Requests.{Requests}
-use Rattle.ctl_face.specs.Enqueue.{after_sending, enqueue}
-use Rattle.ctl_face.specs.Front.{IsFront, is_ready}
-use Rattle.ctl_face.specs.Inbox.{changed_message, with_message, without_message}
-use Rattle.ctl_face.specs.Latency.{is_latency}
-use Rattle.ctl_face.specs.LocalView.{LocalView}
-use Rattle.ctl_face.specs.Mailing.{incoming_message, mail_with_delivery}
-use Rattle.ctl_face.specs.Pop.{mail_without, pop}
-use Rattle.ctl_face.specs.Ready.{front_now}
-use Rattle.ctl_face.specs.Recycle.{mail_with_recycled, message_arriving_again, recycle}
-use Rattle.ctl_face.specs.Routing.{receiving_buffer}
-use Rattle.ctl_face.specs.Send.{Sending, after_network_copy, copy_limit, local_arrival, local_copy, network_arrival, next_copy, no_copies, receivers_of, send, sending_from, sending_on, with_network_copy}
-use Rattle.ctl_face.specs.Stall.{mail_with_waiting, message_waiting_under, stall}
-use Rattle.ctl_face.specs.Table.{Table}
-use Rattle.ctl_face.specs.Tables.{after_change, change_if_there, changed_table, table_at}
-use Rattle.ctl_face.specs.Wake.{message_waiting_no_longer, with_woken}
+use Rattle.ctl_face.specs.Inbox.{with_message}
 use Rattle.ctl_face.proofs.Fronts.{front_first}
 use Rattle.ctl_face.proofs.Inboxes.{KeepsNumber}
-use Rattle.acts.specs.Done.{Done, changes, reads}
+use Rattle.acts.specs.Prelude.{Done, changes, reads}
 
 abbrev pub mail_moved : (List InboxMessage → List InboxMessage) → (List ℕ → List ℕ) → Mail → Mail
 mail_moved f g mail = record mail { inbox = f mail.inbox; marks = g mail.marks }

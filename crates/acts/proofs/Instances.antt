@@ -3,17 +3,10 @@ use Rattle.std.proofs.Common.{◌≡◌, ℕ, List, Result, Ok, Err, All, subst,
 use Rattle.ruby_value.specs.declared.fault.Fault.{Fault}
 use Rattle.ruby_value.specs.declared.fault.Fault.TheVariants as fault
 use Rattle.ruby_value.specs.declared.setup.MachineSetup.{MachineSetup}
-use Rattle.ctl_face.specs.Fits.{IsLawful}
-use Rattle.ctl_face.specs.FitsReceiver.{FitsReceiver}
-use Rattle.ctl_face.specs.InRun.{IsController, IsInRun}
-use Rattle.ctl_face.specs.LocalView.{Actor, LocalView, SameScan}
+use Rattle.ctl_face.specs.Prelude.{IsLawful, FitsReceiver, IsController, IsInRun, Actor, LocalView, SameScan}
 use Rattle.ctl_face.proofs.Receivers.{posted_fit}
-use Rattle.acts.specs.Acting.{Acting, run}
-use Rattle.acts.specs.After.{HoldsAfter}
-use Rattle.acts.specs.Done.{Done}
+use Rattle.acts.specs.Prelude.{Acting, run, HoldsAfter, Done, CountsStay, IsMarked, MarksStay, HasMailed}
 use Rattle.acts.proofs.Laws.{all_keeps, keeps_where_served}
-use Rattle.acts.specs.Kept.{CountsStay, IsMarked, MarksStay}
-use Rattle.acts.specs.Mailed.{HasMailed}
 use Rattle.acts.proofs.Effects.{Changes}
 use Rattle.acts.proofs.Lawful.{lawful_act}
 use Rattle.acts.proofs.Mail.{has_mailed}

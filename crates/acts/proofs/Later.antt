@@ -4,16 +4,11 @@ use Rattle.std.proofs.lemmas.Bool.Decides.{nat_tests}
 use Rattle.std.proofs.lemmas.List.Elements.{All-contains, All-weaker}
 use Rattle.ruby_value.specs.declared.message.Message.{Message}
 use Rattle.ruby_value.specs.declared.message.MsgNo.{MsgNo}
-use Rattle.ruby_value.specs.Ascending.{with_mark}
-use Rattle.ruby_value.specs.NumberBefore.{number_before, same_number}
-use Rattle.ctl_face.specs.Ctl.{InboxMessage}
-use Rattle.ctl_face.specs.Fits.{NumbersAscend}
-use Rattle.ctl_face.specs.Front.{is_ready}
+use Rattle.ruby_value.specs.Prelude.{with_mark, number_before, same_number}
+use Rattle.ctl_face.specs.Prelude.{InboxMessage, NumbersAscend, is_ready, incoming_message, message_waiting_no_longer}
 use Rattle.ctl_face.specs.Inbox.{with_message}
-use Rattle.ctl_face.specs.Mailing.{incoming_message}
-use Rattle.ctl_face.specs.Wake.{message_waiting_no_longer}
 use Rattle.ctl_face.proofs.Inboxes.{KeepsNumber, number_before_trans}
-use Rattle.acts.specs.Added.{IsNew}
+use Rattle.acts.specs.Prelude.{IsNew}
 use Rattle.acts.proofs.Frames.{Passes}
 use Rattle.acts.proofs.Lists.{filter_passes_over, filter_put, map_put, puts_swap}
 

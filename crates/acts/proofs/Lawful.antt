@@ -4,37 +4,15 @@ use Rattle.std.proofs.lemmas.Bool.{and_parts, ltb-true}
 use Rattle.ruby_value.specs.declared.fault.Fault.{Fault}
 use Rattle.ruby_value.specs.declared.kind.Kind.{Kind}
 use Rattle.ruby_value.specs.declared.value.Value.{Value}
-use Rattle.ruby_value.specs.HasKind.{has_kind}
-use Rattle.ruby_value.specs.HasKinds.{has_kinds}
-use Rattle.ctl_face.specs.Allocate.{allocate, with_line}
-use Rattle.ctl_face.specs.Avail.{probe}
-use Rattle.ctl_face.specs.Callback.{block_after_write, read_back, write_back}
-use Rattle.ctl_face.specs.Deallocate.{deallocate, without_line_in}
-use Rattle.ctl_face.specs.Enqueue.{enqueue}
-use Rattle.ctl_face.specs.FieldsIn.{fields_in}
-use Rattle.ctl_face.specs.Fits.{IsLawful}
-use Rattle.ruby_value.specs.Lines.{IsLine, line_limit}
-use Rattle.ctl_face.specs.Get.{get}
-use Rattle.ctl_face.specs.LocalView.{LocalView}
-use Rattle.ctl_face.specs.Lookup.{reference_to}
-use Rattle.ctl_face.specs.OfMachine.{buffer_place, field_kinds, initial_fields, message_kinds, table_size}
-use Rattle.ctl_face.specs.Pop.{pop}
-use Rattle.ctl_face.specs.Ready.{required_front}
-use Rattle.ctl_face.specs.Recycle.{recycle}
-use Rattle.ctl_face.specs.Served.{looks_up, receives, sends}
-use Rattle.ctl_face.specs.Set.{set as set_field, table_with_field}
-use Rattle.ctl_face.specs.Stall.{stall}
-use Rattle.ctl_face.specs.Touch.{touch, used_line}
+use Rattle.ruby_value.specs.Prelude.{has_kind, has_kinds, IsLine, line_limit}
+use Rattle.ctl_face.specs.Prelude.{allocate, with_line, probe, block_after_write, read_back, write_back, deallocate, without_line_in, enqueue, fields_in, IsLawful, get, LocalView, reference_to, buffer_place, field_kinds, initial_fields, message_kinds, table_size, pop, required_front, recycle, looks_up, receives, sends, set, table_with_field, stall, touch, used_line}
 use Rattle.ctl_face.proofs.ActsKept.{changed_acts, enqueue_acts, pop_acts, read_acts, recycle_acts, stall_acts, wake_acts, write_acts}
 use Rattle.ctl_face.proofs.Callbacks.{read_back_keeps, set_state_keeps, write_back_keeps}
 use Rattle.ctl_face.proofs.LawfulAfter.{lawful_after, own_below}
 use Rattle.ctl_face.proofs.MailKept.{again_keeps, pop_keeps, recycle_keeps, stall_keeps, wake_all_keeps, wake_keeps}
 use Rattle.ctl_face.proofs.Sendings.{enqueue_keeps}
 use Rattle.ctl_face.proofs.TableCalls.{allocate_keeps, deallocate_keeps, set_keeps, touch_keeps}
-use Rattle.acts.specs.Act.{Act, Now, Me, Get, Set, Lookup, Avail, Probe, Allocate, Deallocate, Touch, Free, Ready, Front, Pop, Stall, Wake, WakeAll, Recycle, Send, ReadBack, WriteBack, State, SetState, Again}
-use Rattle.acts.specs.After.{HoldsAfter}
-use Rattle.acts.specs.Done.{changes, does_served, reads}
-use Rattle.acts.specs.Serves.{is_line, serves, takes, takes_field}
+use Rattle.acts.specs.Prelude.{Act, Now, Me, Get, Set, Lookup, Avail, Probe, Allocate, Deallocate, Touch, Free, Ready, Front, Pop, Stall, Wake, WakeAll, Recycle, Send, ReadBack, WriteBack, State, SetState, Again, HoldsAfter, changes, does_served, reads, is_line, serves, takes, takes_field}
 
 pub line_is : (line : ℕ) → is_line line ≡ true → IsLine line
 line_is line is = ltb-true line line_limit is
@@ -59,8 +37,8 @@ lawful_act (Get r field) v is l = holds_reads IsLawful v (get v r field) l
 lawful_act (Set r field value) v is l =
     let parts = and_parts (is_line r.line) (takes_field v.machine r.table field value) is in
     let takes_it = takes_is (slice_get (field_kinds v.machine r.table) field) value parts.1 in
-    holds_changes IsLawful tt (set_field v r field value)
-    (lawful_after (set_field v r field value) (set_keeps v r field value takes_it (line_is r.line parts.0) l.scan)
+    holds_changes IsLawful tt (set v r field value)
+    (lawful_after (set v r field value) (set_keeps v r field value takes_it (line_is r.line parts.0) l.scan)
     (changed_acts v l.acts r.table (λ t. table_with_field t r.line field value (fields_in t r.line))))
 lawful_act (Lookup table line) v is l = l
 lawful_act (Avail table line) v is l = l

@@ -5,12 +5,8 @@ use Rattle.std.proofs.lemmas.Bool.{cond_both}
 use Rattle.ruby_value.specs.declared.fault.Fault.{Fault}
 use Rattle.ruby_value.specs.declared.fault.Fault.TheVariants.{Reference}
 use Rattle.ruby_value.specs.declared.setup.MachineSetup.{MachineSetup}
-use Rattle.ctl_face.specs.LocalView.{LocalView}
-use Rattle.acts.specs.Act.{Act}
-use Rattle.acts.specs.Acting.{Acting, ends, stops, acts, follow, run}
-use Rattle.acts.specs.After.{Agrees, HoldsAfter}
-use Rattle.acts.specs.Done.{Done, does, does_served}
-use Rattle.acts.specs.Serves.{serves}
+use Rattle.ctl_face.specs.Prelude.{LocalView}
+use Rattle.acts.specs.Prelude.{Act, Acting, ends, stops, acts, follow, run, Agrees, HoldsAfter, Done, does, does_served, serves}
 use Rattle.acts.proofs.Served.{does-not_served, does-served}
 
 abbrev pub EachActKeeps : (LocalView → Type 0) → Type 0

@@ -3,17 +3,8 @@
 use Rattle.std.proofs.Common.{◌≡◌, ◌≤◌, ℕ, List, Result, Ok, Err, All, refl, sym, ap, subst, ◌∙◌, arith}
 use Rattle.ruby_value.specs.declared.fault.Fault.{Fault}
 use Rattle.ruby_value.specs.declared.setup.MachineSetup.{MachineSetup}
-use Rattle.ctl_face.specs.Fits.{IsLawful}
-use Rattle.ctl_face.specs.FitsReceiver.{FitsReceiver}
-use Rattle.ctl_face.specs.InRun.{IsInRun}
-use Rattle.ctl_face.specs.LocalView.{LocalView, SameScan}
-use Rattle.acts.specs.Act.{Act, answer}
-use Rattle.acts.specs.Acting.{Acting, ends, stops, acts, follow, fault_of, run}
-use Rattle.acts.specs.After.{HoldsAfter}
-use Rattle.acts.specs.Done.{Done, does}
-use Rattle.acts.specs.Kept.{CountsStay, IsMarked, MarksStay}
-use Rattle.acts.specs.Left.{IsLeft}
-use Rattle.acts.specs.Mailed.{HasMailed}
+use Rattle.ctl_face.specs.Prelude.{IsLawful, FitsReceiver, IsInRun, LocalView, SameScan}
+use Rattle.acts.specs.Prelude.{Act, answer, Acting, ends, stops, acts, follow, fault_of, run, HoldsAfter, Done, does, CountsStay, IsMarked, MarksStay, IsLeft, HasMailed}
 use Rattle.acts.proofs.Instances.{copies_have_receivers, counts_stay, mail_moves, marks_stay, stays_in_run, stays_in_scan, stays_lawful, stays_marked}
 
 pub left_here : (v : LocalView) → IsLeft v v

@@ -4,7 +4,7 @@ use Rattle.std.proofs.lemmas.List.Elements.{All-head, All-tail, All-weaker, filt
 use Rattle.std.proofs.lemmas.List.{append-nil, map-append}
 use Rattle.std.specs.List.{AllPairs}
 use Rattle.ruby_value.proofs.Ordered.{AllPairs-head, AllPairs-tail}
-use Rattle.ruby_value.specs.Inserted.{inserted}
+use Rattle.ruby_value.specs.Prelude.{inserted}
 
 module _ {X : Type 0} (p q : X → Bool) where
   -- filters may be swapped

@@ -3,12 +3,10 @@ use Rattle.std.proofs.Common.{◌≡◌, ◌<◌, ◌+◌, ℕ, zero, suc, Bool,
 use Rattle.std.proofs.lemmas.Bool.{eq-eqb}
 use Rattle.std.proofs.lemmas.List.Elements.{All-cons, All-filter, All-head, All-nil, All-tail}
 use Rattle.ruby_value.specs.declared.message.MsgNo.{MsgNo}
-use Rattle.ctl_face.specs.Acts.{sent_of}
+use Rattle.ctl_face.specs.Prelude.{sent_of, IsLawful, LocalView}
 use Rattle.ruby_value.specs.declared.message.Sent.{Sent}
-use Rattle.ctl_face.specs.Fits.{IsLawful}
-use Rattle.ctl_face.specs.LocalView.{LocalView}
-use Rattle.ruby_value.specs.NumbersFrom.{numbers_from}
-use Rattle.acts.specs.Mailed.{HasMailed, IsPosted}
+use Rattle.ruby_value.specs.Prelude.{numbers_from}
+use Rattle.acts.specs.Prelude.{HasMailed, IsPosted}
 
 -- of a list whose map has P each has it
 module _ {X Y : Type 0} (P : Y → Type 0) (f : X → Y) where

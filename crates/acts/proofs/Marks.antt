@@ -12,20 +12,13 @@ use Rattle.ruby_value.specs.declared.setup.BufferPlace.TheVariants as place
 use Rattle.ruby_value.specs.declared.setup.BufferSetup.{BufferSetup}
 use Rattle.ruby_value.specs.declared.setup.MachineSetup.{MachineSetup}
 use Rattle.ruby_value.specs.declared.value.Value.{Value}
-use Rattle.ruby_value.specs.Ascending.{has_mark, with_mark}
-use Rattle.ruby_value.specs.NumberBefore.{number_before, same_number}
-use Rattle.ctl_face.specs.Ctl.{InboxMessage, Mail}
-use Rattle.ctl_face.specs.Inbox.{with_message, without_message}
-use Rattle.ctl_face.specs.Lasts.{last_at}
-use Rattle.ctl_face.specs.Latency.{is_latency}
-use Rattle.ctl_face.specs.LocalView.{Actor}
-use Rattle.ctl_face.specs.Mailing.{incoming_message, mail_with_delivery}
-use Rattle.ctl_face.specs.Routing.{receiving_buffer}
-use Rattle.ctl_face.specs.Send.{Sending, copy_limit, local_arrival, local_copy, network_arrival, next_copy, no_copies, receivers_of, send, sending_from, sending_on, with_network_copy}
+use Rattle.ruby_value.specs.Prelude.{has_mark, with_mark, number_before, same_number}
+use Rattle.ctl_face.specs.Prelude.{InboxMessage, Mail, without_message, last_at, is_latency, Actor, incoming_message, mail_with_delivery, receiving_buffer, Sending, copy_limit, local_arrival, local_copy, network_arrival, next_copy, no_copies, receivers_of, send, sending_from, sending_on, with_network_copy}
+use Rattle.ctl_face.specs.Inbox.{with_message}
 use Rattle.ctl_face.proofs.Arrivals.{copy_later, positive, raised}
 use Rattle.ctl_face.proofs.Cases.{Good, good_ok, good_err, good_cond, good_unless}
 use Rattle.ctl_face.proofs.OneKey.{with_mark-has}
-use Rattle.acts.specs.Kept.{AreMarked, KeepsMarks}
+use Rattle.acts.specs.Prelude.{AreMarked, KeepsMarks}
 
 pub same_bool : (a b : Bool) → (a ≡ true → b ≡ true) → (b ≡ true → a ≡ true) → a ≡ b
 same_bool true b to from = sym (to refl)

@@ -4,13 +4,9 @@ use Rattle.std.proofs.lemmas.Bool.{and_parts, lt-ltb, ltb-true}
 use Rattle.std.specs.Prelude.{◌&&◌, ◌↔◌}
 use Rattle.ruby_value.specs.declared.kind.Kind.{Kind}
 use Rattle.ruby_value.specs.declared.value.Value.{Value}
-use Rattle.ruby_value.specs.HasKind.{has_kind}
-use Rattle.ruby_value.specs.Lines.{IsLine, line_limit}
-use Rattle.ctl_face.specs.LocalView.{LocalView}
-use Rattle.ctl_face.specs.OfMachine.{field_kinds}
-use Rattle.acts.specs.Act.{Act, Now, Me, Get, Set, Lookup, Avail, Probe, Allocate, Deallocate, Touch, Free, Ready, Front, Pop, Stall, Wake, WakeAll, Recycle, Send, ReadBack, WriteBack, State, SetState, Again}
-use Rattle.acts.specs.Required.{Required}
-use Rattle.acts.specs.Serves.{is_line, serves, takes}
+use Rattle.ruby_value.specs.Prelude.{has_kind, IsLine, line_limit}
+use Rattle.ctl_face.specs.Prelude.{LocalView, field_kinds}
+use Rattle.acts.specs.Prelude.{Act, Now, Me, Get, Set, Lookup, Avail, Probe, Allocate, Deallocate, Touch, Free, Ready, Front, Pop, Stall, Wake, WakeAll, Recycle, Send, ReadBack, WriteBack, State, SetState, Again, Required, is_line, serves, takes}
 
 same : {A : Type 0} → A ↔ A
 same = (λ x. x, λ x. x)

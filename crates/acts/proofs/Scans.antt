@@ -4,28 +4,10 @@ use Rattle.std.proofs.lemmas.Bool.{cond_both}
 use Rattle.std.specs.Option.{ok_or, option_and_then}
 use Rattle.ruby_value.specs.declared.fault.Fault.{Fault}
 use Rattle.ruby_value.specs.declared.fault.Fault.TheVariants.{Front as NoFront, Invalid, Probe as NoProbe, Reference}
-use Rattle.ctl_face.specs.Avail.{avail, least_used_in, probe}
-use Rattle.ctl_face.specs.Get.{fields_behind, get}
-use Rattle.ctl_face.specs.LocalView.{LocalView, SameScan}
-use Rattle.ctl_face.specs.Ready.{front_now}
-use Rattle.ctl_face.specs.Tables.{table_at}
-use Rattle.ctl_face.specs.Allocate.{allocate}
-use Rattle.ctl_face.specs.Callback.{block_after_write, read_back, write_back}
-use Rattle.ctl_face.specs.Deallocate.{deallocate}
-use Rattle.ctl_face.specs.Enqueue.{enqueue}
-use Rattle.ctl_face.specs.Lookup.{reference_to}
-use Rattle.ctl_face.specs.Pop.{pop}
-use Rattle.ctl_face.specs.Recycle.{recycle}
-use Rattle.ctl_face.specs.Set.{set as set_field}
-use Rattle.ctl_face.specs.Stall.{stall}
-use Rattle.ctl_face.specs.Touch.{touch}
+use Rattle.ctl_face.specs.Prelude.{avail, least_used_in, probe, fields_behind, get, LocalView, SameScan, front_now, table_at, allocate, block_after_write, read_back, write_back, deallocate, enqueue, reference_to, pop, recycle, set, stall, touch}
 use Rattle.acts.specs.declared.body_fault.BodyFault.{BodyFault}
 use Rattle.acts.specs.declared.body_fault.BodyFault.TheVariants as own
-use Rattle.acts.specs.Act.{Act, Now, Me, Get, Set, Lookup, Avail, Probe, Allocate, Deallocate, Touch, Free, Ready, Front, Pop, Stall, Wake, WakeAll, Recycle, Send, ReadBack, WriteBack, State, SetState, Again, answer}
-use Rattle.acts.specs.Acting.{Acting, ends, stops, acts, fault_of, follow, run}
-use Rattle.acts.specs.After.{HoldsAfter}
-use Rattle.acts.specs.Done.{Done, changes, does, does_served, reads}
-use Rattle.acts.specs.Serves.{serves}
+use Rattle.acts.specs.Prelude.{Act, Now, Me, Get, Set, Lookup, Avail, Probe, Allocate, Deallocate, Touch, Free, Ready, Front, Pop, Stall, Wake, WakeAll, Recycle, Send, ReadBack, WriteBack, State, SetState, Again, answer, Acting, ends, stops, acts, fault_of, follow, run, HoldsAfter, Done, changes, does, does_served, reads, serves}
 use Rattle.acts.proofs.Laws.{all_keeps, keeps_where_served}
 use Rattle.acts.proofs.Effects.{Changes, Effect, NotInvalid, again_effect, allocate_effect, deallocate_effect, pop_effect, read_effect, recycle_effect, send_effect, set_effect, set_state_effect, stall_effect, touch_effect, wake_effect, write_effect}
 use Rattle.acts.proofs.Marks.{marks_kept}
@@ -60,7 +42,7 @@ pub act_effect : (a : Act) (v : LocalView) → DoneEffect v (does_served a v)
 act_effect Now v = unchanged v
 act_effect Me v = unchanged v
 act_effect (Get r field) v = read v (get v r field) (or_fault (option_and_then (λ fields. slice_get fields field) (fields_behind v r)) Reference (λ is. cc is))
-act_effect (Set r field value) v = changed v tt (set_field v r field value) (set_effect v r field value)
+act_effect (Set r field value) v = changed v tt (set v r field value) (set_effect v r field value)
 act_effect (Lookup table line) v = unchanged v
 act_effect (Avail table line) v = unchanged v
 act_effect (Probe table line) v =

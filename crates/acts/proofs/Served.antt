@@ -4,13 +4,8 @@ use Rattle.ruby_value.specs.declared.fault.Fault.{Fault}
 use Rattle.ruby_value.specs.declared.fault.Fault.TheVariants.{Reference}
 use Rattle.ctl_face.specs.declared.trouble.Trouble.{Trouble}
 use Rattle.ctl_face.specs.declared.trouble.Trouble.TheVariants as trouble
-use Rattle.ctl_face.specs.Does.{DoesWith, Reads}
-use Rattle.ctl_face.specs.LocalView.{LocalView}
-use Rattle.acts.specs.Act.{Act, answer}
-use Rattle.acts.specs.Acting.{act, ends, follow, run}
-use Rattle.acts.specs.DoesAs.{DoesAs, itself}
-use Rattle.acts.specs.Done.{Done, changes, does, does_served, reads}
-use Rattle.acts.specs.Serves.{serves}
+use Rattle.ctl_face.specs.Prelude.{DoesWith, Reads, LocalView}
+use Rattle.acts.specs.Prelude.{Act, answer, act, ends, follow, run, DoesAs, itself, Done, changes, does, does_served, reads, serves}
 
 pub does-served : (a : Act) (v : LocalView) → serves v.machine a ≡ true → does a v ≡ does_served a v
 unfolding does

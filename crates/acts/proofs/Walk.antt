@@ -4,11 +4,9 @@ use Rattle.std.proofs.Common.{◌≡◌, Bool, true, false, Option, None, Some, 
 use Rattle.ruby_value.specs.declared.fault.Fault.{Fault}
 use Rattle.ctl_face.specs.declared.trouble.Trouble.{Trouble}
 use Rattle.ctl_face.specs.declared.trouble.Trouble.TheVariants as trouble
-use Rattle.ctl_face.specs.LocalView.{LocalView}
+use Rattle.ctl_face.specs.Prelude.{LocalView}
 use Rattle.acts.specs.declared.body_fault.BodyFault.{BodyFault}
-use Rattle.acts.specs.Acting.{Acting, ends, stops, acts, ◌>>=◌, ◌>>◌, decided, either, fault_of, follow, found, given, run}
-use Rattle.acts.specs.DoesAs.{DoesAs}
-use Rattle.acts.specs.Done.{Done, does}
+use Rattle.acts.specs.Prelude.{Acting, ends, stops, acts, ◌>>=◌, ◌>>◌, decided, either, fault_of, follow, found, given, run, DoesAs, Done, does}
 
 module _ {A B C : Type 0} where
   follow_twice : (r : Result (Done A) Fault) (f : A → LocalView → Result (Done B) Fault) (g : B → LocalView → Result (Done C) Fault) (h : A → LocalView → Result (Done C) Fault)

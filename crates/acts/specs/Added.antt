@@ -4,11 +4,9 @@ use Rattle.std.specs.Prelude.{◌≡◌, ◌<◌, ℕ, List, Result, Ok, Err}
 use Rattle.std.specs.List.{All, AllPairs, fold}
 use Rattle.ruby_value.specs.declared.fault.Fault.{Fault}
 use Rattle.ruby_value.specs.declared.message.Message.{Message}
-use Rattle.ruby_value.specs.Ascending.{with_mark}
-use Rattle.ctl_face.specs.Ctl.{Ctl, InboxMessage, Mail}
+use Rattle.ruby_value.specs.Prelude.{with_mark}
+use Rattle.ctl_face.specs.Prelude.{Ctl, InboxMessage, Mail, LocalView, incoming_message}
 use Rattle.ctl_face.specs.Inbox.{with_message}
-use Rattle.ctl_face.specs.LocalView.{LocalView}
-use Rattle.ctl_face.specs.Mailing.{incoming_message}
 use Rattle.acts.specs.Done.{Done}
 
 pub record Added : Type 0 where

@@ -2,7 +2,7 @@
 -- where it ends with equal answers and leaves locals that are related, or stops with the same fault.
 use Rattle.std.specs.Prelude.{◌≡◌, Result, Ok, Err}
 use Rattle.ruby_value.specs.declared.fault.Fault.{Fault}
-use Rattle.ctl_face.specs.LocalView.{LocalView}
+use Rattle.ctl_face.specs.Prelude.{LocalView}
 use Rattle.acts.specs.Done.{Done}
 
 abbrev pub HoldsAfter : {A : Type 0} → (LocalView → Type 0) → Result (Done A) Fault → Type 0

@@ -4,7 +4,7 @@
 use Rattle.std.specs.Prelude.{◌≡◌, Result, Ok, Err}
 use Rattle.ctl_face.specs.declared.trouble.Trouble.{Trouble}
 use Rattle.ctl_face.specs.declared.trouble.Trouble.TheVariants as trouble
-use Rattle.ctl_face.specs.LocalView.{LocalView}
+use Rattle.ctl_face.specs.Prelude.{LocalView}
 use Rattle.acts.specs.Acting.{Acting, run}
 
 unfoldable pub DoesAs : {A R : Type 0} → (R → A) → Acting A → Result R Trouble → LocalView → LocalView → Type 0

@@ -3,24 +3,7 @@
 use Rattle.std.specs.Prelude.{Result, Ok, Err, if◌then◌else◌}
 use Rattle.ruby_value.specs.declared.fault.Fault.{Fault}
 use Rattle.ruby_value.specs.declared.fault.Fault.TheVariants.{Reference}
-use Rattle.ctl_face.specs.Again.{again}
-use Rattle.ctl_face.specs.Allocate.{allocate}
-use Rattle.ctl_face.specs.Avail.{avail, probe}
-use Rattle.ctl_face.specs.Callback.{block_after_write, read_back, write_back}
-use Rattle.ctl_face.specs.Deallocate.{deallocate}
-use Rattle.ctl_face.specs.Enqueue.{enqueue}
-use Rattle.ctl_face.specs.Free.{free}
-use Rattle.ctl_face.specs.Get.{get}
-use Rattle.ctl_face.specs.LocalView.{LocalView}
-use Rattle.ctl_face.specs.Lookup.{lookup, reference_to}
-use Rattle.ctl_face.specs.Pop.{pop}
-use Rattle.ctl_face.specs.Ready.{ready, required_front}
-use Rattle.ctl_face.specs.Recycle.{recycle}
-use Rattle.ctl_face.specs.Set.{set}
-use Rattle.ctl_face.specs.Stall.{stall}
-use Rattle.ctl_face.specs.State.{set_state, state}
-use Rattle.ctl_face.specs.Touch.{touch}
-use Rattle.ctl_face.specs.Wake.{wake, wake_all}
+use Rattle.ctl_face.specs.Prelude.{again, allocate, avail, probe, block_after_write, read_back, write_back, deallocate, enqueue, free, get, LocalView, lookup, reference_to, pop, ready, required_front, recycle, set, stall, set_state, state, touch, wake, wake_all}
 use Rattle.acts.specs.Act.{Act, Now, Me, Get, Set, Lookup, Avail, Probe, Allocate, Deallocate, Touch, Free, Ready, Front, Pop, Stall, Wake, WakeAll, Recycle, Send, ReadBack, WriteBack, State, SetState, Again, answer}
 use Rattle.acts.specs.Serves.{serves}
 

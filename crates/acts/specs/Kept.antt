@@ -3,9 +3,8 @@
 -- body; and where the controller was to wake in the next cycle, there is that mark.
 use Rattle.std.specs.Prelude.{◌≡◌, ◌<◌, ◌≤◌, ◌+◌, ℕ, true, List, IsTrue}
 use Rattle.std.specs.List.{All}
-use Rattle.ruby_value.specs.Ascending.{has_mark}
-use Rattle.ctl_face.specs.Ctl.{InboxMessage}
-use Rattle.ctl_face.specs.LocalView.{LocalView}
+use Rattle.ruby_value.specs.Prelude.{has_mark}
+use Rattle.ctl_face.specs.Prelude.{InboxMessage, LocalView}
 
 pub record KeepsMarks (before : List ℕ) (now : ℕ) (after : List ℕ) : Type 0 where
   pub stay : (cycle : ℕ) → IsTrue (has_mark before cycle) → IsTrue (has_mark after cycle)

@@ -9,3 +9,4 @@ pub mod Kept
 pub mod Mailed
 pub mod Added
 pub mod Left
+pub mod Prelude

@@ -3,14 +3,11 @@
 -- are counted. What is posted has the sender's number, is for another controller, and arrives later.
 use Rattle.std.specs.Prelude.{◌≡◌, ◌<◌, ◌+◌, ℕ, false, map, length}
 use Rattle.std.specs.List.{All}
-use Rattle.ctl_face.specs.Acts.{Acts}
+use Rattle.ctl_face.specs.Prelude.{Acts, MailMoves, Mail, LocalView}
 use Rattle.ruby_value.specs.declared.message.Delivery.{Delivery}
 use Rattle.ruby_value.specs.declared.message.Message.{Message}
 use Rattle.ruby_value.specs.declared.message.Sent.{Sent}
-use Rattle.ctl_face.specs.ActsFit.{MailMoves}
-use Rattle.ctl_face.specs.Ctl.{Mail}
-use Rattle.ctl_face.specs.LocalView.{LocalView}
-use Rattle.ruby_value.specs.NumbersFrom.{numbers_from}
+use Rattle.ruby_value.specs.Prelude.{numbers_from}
 
 pub record MovesMail (me : ℕ) (before : Mail) (acts : Acts) (after : Mail) : Type 0 where
   pub moved : MailMoves before.inbox after.inbox acts.consumed acts.sent acts.posted

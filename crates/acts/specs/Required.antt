@@ -1,8 +1,7 @@
 -- What the calls of a local require, act by act, in the words of the trait's clauses: that its machine serves the table or buffer that
 -- the call names, that a line is one, and that a value or a message has the kinds that are declared.
-use Rattle.ruby_value.specs.Lines.{IsLine}
-use Rattle.ctl_face.specs.LocalView.{LocalView}
-use Rattle.ctl_face.specs.Served.{HasField, HasStates, Receives, Sends, Serves, TakesField, TakesMessage, deallocates, is_cache, is_tbe_table, looks_up}
+use Rattle.ruby_value.specs.Prelude.{IsLine}
+use Rattle.ctl_face.specs.Prelude.{LocalView, HasField, HasStates, Receives, Sends, Serves, TakesField, TakesMessage, deallocates, is_cache, is_tbe_table, looks_up}
 use Rattle.acts.specs.Act.{Act, Now, Me, Get, Set, Lookup, Avail, Probe, Allocate, Deallocate, Touch, Free, Ready, Front, Pop, Stall, Wake, WakeAll, Recycle, Send, ReadBack, WriteBack, State, SetState, Again}
 
 abbrev pub Required : LocalView → Act → Type 0

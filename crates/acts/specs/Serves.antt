@@ -4,11 +4,8 @@ use Rattle.std.specs.Prelude.{ℕ, Bool, true, false, ◌&&◌, Option, None, So
 use Rattle.ruby_value.specs.declared.kind.Kind.{Kind}
 use Rattle.ruby_value.specs.declared.setup.MachineSetup.{MachineSetup}
 use Rattle.ruby_value.specs.declared.value.Value.{Value}
-use Rattle.ruby_value.specs.HasKind.{has_kind}
-use Rattle.ruby_value.specs.HasKinds.{has_kinds}
-use Rattle.ruby_value.specs.Lines.{line_limit}
-use Rattle.ctl_face.specs.OfMachine.{buffer_place, field_kinds, message_kinds, table_size}
-use Rattle.ctl_face.specs.Served.{deallocates, is_cache, is_tbe_table, looks_up, receives, sends}
+use Rattle.ruby_value.specs.Prelude.{has_kind, has_kinds, line_limit}
+use Rattle.ctl_face.specs.Prelude.{buffer_place, field_kinds, message_kinds, table_size, deallocates, is_cache, is_tbe_table, looks_up, receives, sends}
 use Rattle.acts.specs.Act.{Act, Now, Me, Get, Set, Lookup, Avail, Probe, Allocate, Deallocate, Touch, Free, Ready, Front, Pop, Stall, Wake, WakeAll, Recycle, Send, ReadBack, WriteBack, State, SetState, Again}
 
 abbrev pub is_line : ℕ → Bool

@@ -1,16 +1,9 @@
 ghost use Rattle.std.specs.Prelude.{◌≡◌, Err, ℕ, List};
 ghost use Rattle.std.specs.List.{All};
 ghost use Rattle.ruby_value.specs.declared.fault.Fault.TheVariants as fault;
-ghost use Rattle.ruby_value.specs.declared.setup.MachineSetup.{MachineSetup as MachineRecord};
-ghost use Rattle.ctl_face.specs.Fits.{IsLawful};
-ghost use Rattle.ctl_face.specs.FitsReceiver.{FitsReceiver};
-ghost use Rattle.ctl_face.specs.InRun.{IsInRun};
-ghost use Rattle.ctl_face.specs.LocalView.{LocalView, SameScan};
-ghost use Rattle.acts.specs.Acting.{Acting, run};
-ghost use Rattle.acts.specs.After.{HoldsAfter};
-ghost use Rattle.acts.specs.Added.{Added, AreNew, after_adding, with_added};
-ghost use Rattle.acts.specs.Kept.{CountsStay, IsMarked, MarksStay};
-ghost use Rattle.acts.specs.Mailed.{HasMailed};
+ghost use Rattle.ruby_value.specs.declared.setup.MachineSetup.{MachineSetup};
+ghost use Rattle.ctl_face.specs.Prelude.{IsLawful, FitsReceiver, IsInRun, LocalView, SameScan};
+ghost use Rattle.acts.specs.Prelude.{Acting, run, HoldsAfter, Added, AreNew, after_adding, with_added, CountsStay, IsMarked, MarksStay, HasMailed};
 
 /// What holds of each lawful local holds after each body, which leaves it in the same scan, and counts no transition and doesn't stop
 /// the controller; and so it is of a local of a run, whose posted copies then fit their receivers.
@@ -18,10 +11,10 @@ pub fn bodies_keep_what_holds<A>()
     ensures lawful { (p : Acting A) (v : LocalView) → IsLawful v → HoldsAfter IsLawful (run p v) }
     ensures scan { (p : Acting A) (v : LocalView) → HoldsAfter (SameScan v) (run p v) }
     ensures counts { (p : Acting A) (v : LocalView) → HoldsAfter (CountsStay v) (run p v) }
-    ensures in_run { (p : Acting A) (machines : List MachineRecord) (ranges : List (ℕ × ℕ))
+    ensures in_run { (p : Acting A) (machines : List MachineSetup) (ranges : List (ℕ × ℕ))
         (v : LocalView)
         → IsInRun machines ranges v → HoldsAfter (IsInRun machines ranges) (run p v) }
-    ensures receivers { (p : Acting A) (machines : List MachineRecord) (ranges : List (ℕ × ℕ))
+    ensures receivers { (p : Acting A) (machines : List MachineSetup) (ranges : List (ℕ × ℕ))
         (v : LocalView)
         → IsInRun machines ranges v
         → HoldsAfter (λ w. All (FitsReceiver machines ranges) w.acts.posted) (run p v) }

@@ -1,7 +1,5 @@
 // Acts on a controller's messages, each done where the machine serves it.
-ghost use Rattle.acts.specs.Act.{Front, Pop, Ready, Recycle, Send, Stall, Wake, WakeAll};
-ghost use Rattle.acts.specs.Acting.{act};
-ghost use Rattle.acts.specs.DoesAs.{DoesAs, itself};
+ghost use Rattle.acts.specs.Prelude.{Front, Pop, Ready, Recycle, Send, Stall, Wake, WakeAll, act, DoesAs, itself};
 
 use crate::serving::{is_line, not_served, serves_send};
 use ctl_face::{Fields, Local, Message, Trouble, receives};

@@ -1,9 +1,7 @@
 // What a controller is told, its built-in map of states, and its next wake-up.
 ghost use Rattle.std.specs.Prelude.{Ok};
-ghost use Rattle.ctl_face.specs.declared.trouble.Trouble.{Trouble as TroubleType};
-ghost use Rattle.acts.specs.Act.{Again, Me, Now, SetState, State};
-ghost use Rattle.acts.specs.Acting.{act};
-ghost use Rattle.acts.specs.DoesAs.{DoesAs, itself};
+ghost use Rattle.ctl_face.specs.declared.trouble.Trouble.{Trouble};
+ghost use Rattle.acts.specs.Prelude.{Again, Me, Now, SetState, State, act, DoesAs, itself};
 
 use crate::serving::{has_states, not_served};
 use ctl_face::{Local, Trouble};

@@ -1,7 +1,5 @@
 // Acts on a controller's requests, each done where the machine serves it.
-ghost use Rattle.acts.specs.Act.{ReadBack, WriteBack};
-ghost use Rattle.acts.specs.Acting.{act};
-ghost use Rattle.acts.specs.DoesAs.{DoesAs, itself};
+ghost use Rattle.acts.specs.Prelude.{ReadBack, WriteBack, act, DoesAs, itself};
 
 use crate::serving::{is_line, not_served};
 use ctl_face::{Block, Local, Trouble};

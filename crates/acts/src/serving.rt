@@ -1,9 +1,7 @@
 // Whether a machine serves an act. None takes memory.
 ghost use Rattle.std.specs.Prelude.{◌≡◌, ◌&&◌, is_some};
-ghost use Rattle.ctl_face.specs.OfMachine.{buffer_place, table_size};
-ghost use Rattle.ctl_face.specs.Served.{receives as receives_of};
-ghost use Rattle.acts.specs.Act.{Get, Send, Set};
-ghost use Rattle.acts.specs.Serves.{is_line as is_line_of, serves};
+ghost use Rattle.ctl_face.specs.Prelude.{buffer_place, table_size, receives};
+ghost use Rattle.acts.specs.Prelude.{Get, Send, Set, is_line, serves};
 
 use ctl_face::{
     Fault, Fields, MachineSetup, Ref, Trouble, Value, has_field, sends, takes_field, takes_message,
@@ -17,7 +15,7 @@ pub(crate) fn not_served() -> Trouble
 }
 
 pub(crate) fn is_line(line: u64) -> bool
-    ensures { result ≡ is_line_of line }
+    ensures { result ≡ is_line line }
 {
     line < 1 << 58
 }
@@ -46,7 +44,7 @@ pub(crate) fn serves_send(
 }
 
 pub(crate) fn has_states(machine: &MachineSetup, line: u64) -> bool
-    ensures { result ≡ (is_line_of line && is_some machine.now.default_state) }
+    ensures { result ≡ (is_line line && is_some machine.now.default_state) }
 {
     is_line(line) && machine.default_state.is_some()
 }

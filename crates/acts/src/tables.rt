@@ -1,7 +1,5 @@
 // Acts on a controller's tables, each done where the machine serves it.
-ghost use Rattle.acts.specs.Act.{Allocate, Avail, Deallocate, Free, Get, Lookup, Probe, Set, Touch};
-ghost use Rattle.acts.specs.Acting.{act};
-ghost use Rattle.acts.specs.DoesAs.{DoesAs, itself};
+ghost use Rattle.acts.specs.Prelude.{Allocate, Avail, Deallocate, Free, Get, Lookup, Probe, Set, Touch, act, DoesAs, itself};
 
 use crate::serving::{is_line, not_served, serves_get, serves_set};
 use ctl_face::{Local, Ref, Trouble, Value, deallocates, is_cache, is_tbe_table, looks_up};

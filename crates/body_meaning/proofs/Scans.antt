@@ -2,15 +2,13 @@
 use Rattle.std.proofs.Common.{◌≡◌, ◌⊎◌, inl, inr, ℕ, Bool, true, false, Result, Ok, Err, nat_le, refl}
 use Rattle.run_journal.specs.declared.entry.StopAt.{StopAt}
 use Rattle.run_journal.specs.declared.entry.FireNote.{FireNote}
-use Rattle.ctl_face.specs.Again.{again}
-use Rattle.ctl_face.specs.LocalView.{LocalView}
-use Rattle.acts.specs.Done.{Done}
-use Rattle.body_meaning.specs.Reading.{Reading}
-use Rattle.body_meaning.specs.declared.round.RoundEnd.{RoundEnd}
-use Rattle.body_meaning.specs.declared.round.RoundEnd.TheVariants.{Fired, Idle, Full, Stop}
-use Rattle.body_meaning.specs.declared.tried.Tried.{Tried}
-use Rattle.body_meaning.specs.declared.tried.Tried.TheVariants.{Waits, Fires}
-use Rattle.body_meaning.specs.Scan.{Scanned, by_outcome, by_try, left_idle, scan}
+use Rattle.ctl_face.specs.Prelude.{again, LocalView}
+use Rattle.acts.specs.Prelude.{Done}
+use Rattle.body_meaning.specs.Prelude.{Reading, Scanned, by_outcome, by_try, left_idle, scan}
+use Rattle.body_meaning.specs.declared.frame.RoundEnd.{RoundEnd}
+use Rattle.body_meaning.specs.declared.frame.RoundEnd.TheVariants.{Fired, Idle, Full, Stop}
+use Rattle.body_meaning.specs.declared.frame.Tried.{Tried}
+use Rattle.body_meaning.specs.declared.frame.Tried.TheVariants.{Waits, Fires}
 
 -- it fired, or the controller is as it was, or it waits
 pub data LeavesIt (v : LocalView) : Scanned → Type 0 where

@@ -12,7 +12,7 @@ use Rattle.ruby_symbols.specs.declared.machine.ActionSymbol.{ActionSymbol}
 use Rattle.ruby_symbols.specs.declared.machine.MachineSymbols.{MachineSymbols}
 use Rattle.ruby_symbols.specs.declared.names.Named.{Named}
 use Rattle.ruby_symbols.specs.declared.names.Named.TheVariants.{Table}
-use Rattle.ruby_symbols.specs.Names.{stands_for}
+use Rattle.ruby_symbols.specs.Prelude.{stands_for}
 use Rattle.body_meaning.specs.Reading.{Reading}
 
 abbrev pub action_block : Option Decl → Option Block

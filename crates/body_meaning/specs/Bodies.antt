@@ -11,7 +11,7 @@ use Rattle.ruby_value.specs.declared.value.Value.{Value}
 use Rattle.ruby_symbols.specs.declared.machine.FormalSymbol.{FormalSymbol}
 use Rattle.ruby_symbols.specs.declared.machine.FunctionSymbol.{FunctionSymbol}
 use Rattle.acts.specs.declared.body_fault.BodyFault.TheVariants as own
-use Rattle.acts.specs.Acting.{Acting, ends, stops, ◌>>=◌}
+use Rattle.acts.specs.Prelude.{Acting, ends, stops, ◌>>=◌}
 use Rattle.body_meaning.specs.declared.frame.Bound.{Bound}
 use Rattle.body_meaning.specs.declared.frame.Flow.{Flow}
 use Rattle.body_meaning.specs.declared.frame.Flow.TheVariants.{WentOn, Returned, Triggered}

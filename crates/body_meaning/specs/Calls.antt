@@ -10,16 +10,15 @@ use Rattle.ruby_value.specs.declared.value.Value.TheVariants as value
 use Rattle.ruby_symbols.specs.declared.machine.MachineSymbols.{MachineSymbols}
 use Rattle.ruby_symbols.specs.declared.machine.TableSymbol.{TableSymbol}
 use Rattle.ruby_symbols.specs.declared.types.EnumerationSymbol.{EnumerationSymbol}
-use Rattle.ruby_symbols.specs.Names.{function_named}
+use Rattle.ruby_symbols.specs.Prelude.{function_named}
 use Rattle.acts.specs.declared.body_fault.BodyFault.TheVariants as own
-use Rattle.acts.specs.Acting.{Acting, ends, ◌>>=◌, found}
-use Rattle.built_in_acts.specs.BuiltIn.{built_in}
-use Rattle.built_in_acts.specs.Values.{address_of_line, argument, line_named, member, reference}
+use Rattle.acts.specs.Prelude.{Acting, ends, ◌>>=◌, found}
+use Rattle.built_in_acts.specs.Prelude.{built_in, address_of_line, argument, line_named, member, reference}
 use Rattle.body_meaning.specs.Reading.{Reading}
 use Rattle.body_meaning.specs.declared.thing.Thing.{Thing}
 use Rattle.body_meaning.specs.declared.thing.Thing.TheVariants as thing
 use Rattle.body_meaning.specs.declared.thing.Trigger.{Trigger}
-use Rattle.body_meaning.specs.declared.calls.Numbered.{Numbered}
+use Rattle.body_meaning.specs.declared.thing.Numbered.{Numbered}
 use Rattle.body_meaning.specs.CallNumbers.{block_call, entry_call, index_call, plain_call, port_call, sequencer_call, set_call, table_call}
 use Rattle.body_meaning.specs.Things.{thing_of}
 

@@ -16,3 +16,4 @@ pub mod Actions
 pub mod Transition
 pub mod Scan
 pub mod Round
+pub mod Prelude

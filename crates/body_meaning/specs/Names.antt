@@ -19,12 +19,10 @@ use Rattle.ruby_symbols.specs.declared.symbols.Symbols.{Symbols}
 use Rattle.ruby_symbols.specs.declared.types.EnumerationSymbol.{EnumerationSymbol}
 use Rattle.ruby_symbols.specs.declared.types.FieldSymbol.{FieldSymbol}
 use Rattle.ruby_symbols.specs.declared.types.StructureSymbol.{StructureSymbol}
-use Rattle.ruby_symbols.specs.Names.{stands_for}
-use Rattle.ruby_symbols.specs.Numbers.{short_number}
-use Rattle.ruby_symbols.specs.Types.{enumeration_named, field_named, member_named}
+use Rattle.ruby_symbols.specs.Prelude.{stands_for, short_number, enumeration_named, field_named, member_named}
 use Rattle.acts.specs.declared.body_fault.BodyFault.TheVariants as own
 use Rattle.acts.specs.Act as act
-use Rattle.acts.specs.Acting.{Acting, ends, stops, ◌>>=◌, act as done, either, found}
+use Rattle.acts.specs.Prelude.{Acting, ends, stops, ◌>>=◌, act as done, either, found}
 use Rattle.body_meaning.specs.Reading.{Reading}
 use Rattle.body_meaning.specs.declared.thing.Thing.{Thing}
 use Rattle.body_meaning.specs.declared.thing.Thing.TheVariants as thing

@@ -5,8 +5,7 @@ use Rattle.slicc_ast.specs.declared.tree.expression.Operator.TheVariants.{Or, An
 use Rattle.ruby_value.specs.declared.value.Value.{Value}
 use Rattle.ruby_value.specs.declared.value.Value.TheVariants as value
 use Rattle.acts.specs.declared.body_fault.BodyFault.{BodyFault}
-use Rattle.built_in_acts.specs.Operators.{are_equal, difference, is_at_most, is_less, negation, product, sum}
-use Rattle.built_in_acts.specs.Values.{truth}
+use Rattle.built_in_acts.specs.Prelude.{are_equal, difference, is_at_most, is_less, negation, product, sum, truth}
 
 -- what the left side decides alone
 abbrev pub settled_by : Operator → Bool → Option Value

@@ -4,16 +4,16 @@ use Rattle.std.specs.Prelude.{ℕ, ◌-◌, Option, None, Some, List, [], ◌∷
 use Rattle.std.specs.Option.{option_map}
 use Rattle.slicc_ast.specs.declared.tree.expression.Suffix.{Suffix, Field}
 use Rattle.slicc_ast.specs.declared.tree.expression.Expr.{Expr, Variable, items-the_row-Suffix}
-use Rattle.slicc_ast.specs.Boxes.{Postfix', Group'}
+use Rattle.slicc_ast.specs.Prelude.{Postfix', Group'}
 use Rattle.ruby_value.specs.declared.value.Ref.{Ref}
 use Rattle.ruby_value.specs.declared.value.Value.{Value}
 use Rattle.acts.specs.declared.body_fault.BodyFault.TheVariants as own
 use Rattle.acts.specs.Act as act
-use Rattle.acts.specs.Acting.{Acting, ends, stops, ◌>>=◌, ◌>>◌, act as done, found}
-use Rattle.built_in_acts.specs.Values.{reference}
+use Rattle.acts.specs.Prelude.{Acting, ends, stops, ◌>>=◌, ◌>>◌, act as done, found}
+use Rattle.built_in_acts.specs.Prelude.{reference}
 use Rattle.body_meaning.specs.declared.frame.Frame.{Frame}
-use Rattle.body_meaning.specs.declared.place.Place.{Place}
-use Rattle.body_meaning.specs.declared.place.Place.TheVariants.{Named, Part, Line}
+use Rattle.body_meaning.specs.declared.frame.Place.{Place}
+use Rattle.body_meaning.specs.declared.frame.Place.TheVariants.{Named, Part, Line}
 use Rattle.body_meaning.specs.Reading.{Reading}
 use Rattle.body_meaning.specs.declared.thing.Thing.{Thing}
 use Rattle.body_meaning.specs.declared.thing.Thing.TheVariants as thing

@@ -4,8 +4,8 @@ use Rattle.std.specs.Prelude.{ℕ}
 use Rattle.slicc_ast.specs.declared.tree.machine.Machine.{Machine}
 use Rattle.ruby_symbols.specs.declared.machine.MachineSymbols.{MachineSymbols}
 use Rattle.ruby_symbols.specs.declared.symbols.Symbols.{Symbols}
-use Rattle.built_in_acts.specs.declared.setting.CallSetting.{CallSetting}
-use Rattle.body_meaning.specs.declared.scope.Scope.{Scope}
+use Rattle.built_in_acts.specs.declared.call.CallSetting.{CallSetting}
+use Rattle.body_meaning.specs.declared.frame.Scope.{Scope}
 
 pub record Reading : Type 0 where
   pub symbols : Symbols

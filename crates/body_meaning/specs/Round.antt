@@ -3,9 +3,9 @@
 -- may drop all else; and of one that is full or stops it says nothing. Without memory nothing is said.
 use Rattle.std.specs.Prelude.{◌≡◌, Result, Ok, Err}
 use Rattle.ruby_base.specs.declared.memory.NoMemory.{NoMemory}
-use Rattle.ctl_face.specs.LocalView.{LocalView}
-use Rattle.body_meaning.specs.declared.round.RoundEnd.{RoundEnd}
-use Rattle.body_meaning.specs.declared.round.RoundEnd.TheVariants.{Fired, Idle, Full, Stop}
+use Rattle.ctl_face.specs.Prelude.{LocalView}
+use Rattle.body_meaning.specs.declared.frame.RoundEnd.{RoundEnd}
+use Rattle.body_meaning.specs.declared.frame.RoundEnd.TheVariants.{Fired, Idle, Full, Stop}
 use Rattle.body_meaning.specs.Scan.{Scanned, left_idle}
 
 -- the local after the code and the one before it

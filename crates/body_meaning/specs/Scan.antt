@@ -8,21 +8,19 @@ use Rattle.slicc_ast.specs.declared.tree.machine.Decl.TheVariants.{InPort}
 use Rattle.slicc_ast.specs.declared.tree.statement.Block.{Block}
 use Rattle.ruby_symbols.specs.declared.machine.PortSymbol.{PortSymbol}
 use Rattle.run_journal.specs.declared.entry.StopAt.{StopAt}
-use Rattle.ctl_face.specs.Again.{again}
-use Rattle.ctl_face.specs.LocalView.{LocalView}
+use Rattle.ctl_face.specs.Prelude.{again, LocalView}
 use Rattle.acts.specs.declared.body_fault.BodyFault.TheVariants as own
-use Rattle.acts.specs.Acting.{Acting, ends as ends_body, ◌>>=◌, found}
-use Rattle.acts.specs.Done.{Done}
+use Rattle.acts.specs.Prelude.{Acting, ends as ends_body, ◌>>=◌, found, Done}
 use Rattle.body_meaning.specs.declared.frame.Flow.{Flow}
 use Rattle.body_meaning.specs.declared.frame.Flow.TheVariants.{Triggered}
 use Rattle.body_meaning.specs.Reading.{Reading}
 use Rattle.body_meaning.specs.Bodies.{calls_of}
 use Rattle.body_meaning.specs.Frames.{Ended}
 use Rattle.body_meaning.specs.Statements.{all_done}
-use Rattle.body_meaning.specs.declared.round.RoundEnd.{RoundEnd}
-use Rattle.body_meaning.specs.declared.round.RoundEnd.TheVariants.{Fired, Idle, Full, Stop}
-use Rattle.body_meaning.specs.declared.tried.Tried.{Tried}
-use Rattle.body_meaning.specs.declared.tried.Tried.TheVariants.{Waits, Fires}
+use Rattle.body_meaning.specs.declared.frame.RoundEnd.{RoundEnd}
+use Rattle.body_meaning.specs.declared.frame.RoundEnd.TheVariants.{Fired, Idle, Full, Stop}
+use Rattle.body_meaning.specs.declared.frame.Tried.{Tried}
+use Rattle.body_meaning.specs.declared.frame.Tried.TheVariants.{Waits, Fires}
 use Rattle.body_meaning.specs.Transition.{try}
 use Rattle.body_meaning.specs.Trying.{Pair, Trying, ends, nothing_known, pairs_of, run_scan, then_try, with_known}
 

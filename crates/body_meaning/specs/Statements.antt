@@ -9,16 +9,15 @@ use Rattle.slicc_ast.specs.declared.tree.expression.Suffix.{Suffix, Method'}
 use Rattle.slicc_ast.specs.declared.tree.expression.Expr.{Expr, Call', items-the_row-Expr, items-the_row-Suffix}
 use Rattle.slicc_ast.specs.declared.tree.statement.If.{If, If', Held-If-otherwise, None', Some', Row_of-ElseIf, end_of-ElseIf, more_of-ElseIf}
 use Rattle.slicc_ast.specs.declared.tree.statement.Stmt.{Stmt, Declare, Assign, Evaluate, Return, If as IfStmt, Peek', Enqueue', StallAndWait, CheckAllocate, Error, Assert, Print, Row_of-Stmt, end_of-Stmt, more_of-Stmt}
-use Rattle.slicc_ast.specs.Boxes.{Postfix', Group'}
+use Rattle.slicc_ast.specs.Prelude.{Postfix', Group'}
 use Rattle.ruby_value.specs.declared.message.Message.{Message}
 use Rattle.ruby_value.specs.declared.value.Value.{Value}
 use Rattle.ruby_symbols.specs.declared.machine.MachineSymbols.{MachineSymbols}
-use Rattle.ruby_symbols.specs.Names.{function_named}
+use Rattle.ruby_symbols.specs.Prelude.{function_named}
 use Rattle.acts.specs.declared.body_fault.BodyFault.TheVariants as own
 use Rattle.acts.specs.Act as act
-use Rattle.acts.specs.Acting.{Acting, ends, stops, ◌>>=◌, ◌>>◌, act as done, either, found}
-use Rattle.built_in_acts.specs.BuiltIn.{built_in}
-use Rattle.built_in_acts.specs.Values.{argument, number, reference, truth}
+use Rattle.acts.specs.Prelude.{Acting, ends, stops, ◌>>=◌, ◌>>◌, act as done, either, found}
+use Rattle.built_in_acts.specs.Prelude.{built_in, argument, number, reference, truth}
 use Rattle.body_meaning.specs.declared.frame.About.{About}
 use Rattle.body_meaning.specs.declared.frame.Bound.{Bound}
 use Rattle.body_meaning.specs.declared.frame.Flow.{Flow}

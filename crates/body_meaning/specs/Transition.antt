@@ -10,16 +10,16 @@ use Rattle.slicc_ast.specs.declared.tree.statement.Block.{Block}
 use Rattle.ruby_value.specs.declared.fault.Fault.TheVariants.{Invalid}
 use Rattle.ruby_value.specs.declared.value.Value.{Value}
 use Rattle.ruby_value.specs.declared.value.Value.TheVariants as value
-use Rattle.ruby_value.specs.Lines.{line_of}
+use Rattle.ruby_value.specs.Prelude.{line_of}
 use Rattle.ruby_symbols.specs.declared.machine.MachineSymbols.{MachineSymbols}
 use Rattle.ruby_symbols.specs.declared.machine.TableSymbol.{TableSymbol}
 use Rattle.ruby_symbols.specs.declared.machine.TransitionSymbol.{TransitionSymbol}
 use Rattle.ruby_symbols.specs.declared.states.StateArgument.{StateArgument}
 use Rattle.ruby_symbols.specs.declared.states.StateArgument.TheVariants.{Tbe, Entry, Address, State}
-use Rattle.ruby_symbols.specs.States.{get_state_arguments, set_permission_arguments, set_state_arguments}
+use Rattle.ruby_symbols.specs.Prelude.{get_state_arguments, set_permission_arguments, set_state_arguments}
 use Rattle.acts.specs.declared.body_fault.BodyFault.TheVariants as own
 use Rattle.acts.specs.Act as act
-use Rattle.acts.specs.Acting.{Acting, ends as ends_body, ◌>>=◌, ◌>>◌, act as done, either, found}
+use Rattle.acts.specs.Prelude.{Acting, ends, ◌>>=◌, ◌>>◌, act as done, either, found}
 use Rattle.body_meaning.specs.declared.frame.About.{About}
 use Rattle.body_meaning.specs.declared.frame.Frame.{Frame}
 use Rattle.body_meaning.specs.Reading.{Reading}
@@ -30,9 +30,9 @@ use Rattle.body_meaning.specs.Each.{each}
 use Rattle.body_meaning.specs.Frames.{Ended}
 use Rattle.body_meaning.specs.Statements.{all_done}
 use Rattle.body_meaning.specs.Things.{value_in}
-use Rattle.body_meaning.specs.declared.tried.Known.{Known}
-use Rattle.body_meaning.specs.declared.tried.Tried.{Tried}
-use Rattle.body_meaning.specs.declared.tried.Tried.TheVariants.{Waits, Fires}
+use Rattle.body_meaning.specs.declared.frame.Known.{Known}
+use Rattle.body_meaning.specs.declared.frame.Tried.{Tried}
+use Rattle.body_meaning.specs.declared.frame.Tried.TheVariants.{Waits, Fires}
 use Rattle.body_meaning.specs.Actions.{body_of_action, need}
 use Rattle.body_meaning.specs.Trying.{Trying, stops, looks_up, stop_at, then_try, with_known}
 
@@ -61,7 +61,7 @@ arguments_for m a state arguments = map (state_argument m a state) arguments
 abbrev pub state_by : Reading → About → Option ℕ → Acting ℕ
 state_by s a None = done (act.State (line_of a.address))
 state_by s a (Some function) =
-    calls_of s function (arguments_for s.machine a 0 (get_state_arguments s.machine)) >>= (λ t. ends_body (as_member s s.machine.states (value_in t)))
+    calls_of s function (arguments_for s.machine a 0 (get_state_arguments s.machine)) >>= (λ t. ends (as_member s s.machine.states (value_in t)))
 
 abbrev pub read_state : Reading → About → Acting ℕ
 read_state s a = state_by s a s.machine.get_state
@@ -69,24 +69,24 @@ read_state s a = state_by s a s.machine.get_state
 abbrev pub state_set : Reading → About → ℕ → Option ℕ → Acting (Unit {0})
 state_set s a next None = done (act.SetState (line_of a.address) next)
 state_set s a next (Some function) =
-    calls_of s function (arguments_for s.machine a next (set_state_arguments s.machine)) >> ends_body tt
+    calls_of s function (arguments_for s.machine a next (set_state_arguments s.machine)) >> ends tt
 
 abbrev pub permission_set : Reading → About → ℕ → Option ℕ → Acting (Unit {0})
-permission_set s a next None = ends_body tt
+permission_set s a next None = ends tt
 permission_set s a next (Some function) =
-    calls_of s function (arguments_for s.machine a next (set_permission_arguments s.machine)) >> ends_body tt
+    calls_of s function (arguments_for s.machine a next (set_permission_arguments s.machine)) >> ends tt
 
 -- Stalls.
 
 -- the table of this number has fewer free lines than are needed of it
 abbrev pub table_short : (ℕ → ℕ) → ℕ → Acting Bool
 table_short need table =
-    either (need table == 0) (ends_body false) (done (act.Free table) >>= (λ free. ends_body (nat_lt free (need table))))
+    either (need table == 0) (ends false) (done (act.Free table) >>= (λ free. ends (nat_lt free (need table))))
 
 -- some of these tables has, which have the numbers from this one on
 abbrev pub is_short : (ℕ → ℕ) → ℕ → List TableSymbol → Acting Bool
-is_short need table [] = ends_body false
-is_short need table (t ∷ ts) = table_short need table >>= (λ short. either short (ends_body true) (is_short need (table + 1) ts))
+is_short need table [] = ends false
+is_short need table (t ∷ ts) = table_short need table >>= (λ short. either short (ends true) (is_short need (table + 1) ts))
 
 abbrev pub is_stall_among : List ℕ → Option ℕ → Bool
 is_stall_among actions None = false
@@ -102,19 +102,19 @@ abbrev pub action_done : Reading → About → ℕ → Acting About
 action_done s a number =
     found own.Reference (body_of_action s number)
     >>= (λ (b : Block). all_done s (calls_of s) b.statements (record { names = []; about = Some a })
-    >>= (λ (e : Ended). ends_body (about_left a e.frame)))
+    >>= (λ (e : Ended). ends (about_left a e.frame)))
 
 -- A try.
 
 abbrev pub waiting : Acting Tried
-waiting = done act.Again >> ends_body Waits
+waiting = done act.Again >> ends Waits
 
 abbrev pub fired : Reading → Trigger → ℕ → ℕ → TransitionSymbol → Acting Tried
 fired s t state next row =
     each (action_done s) (about t) row.actions
     >>= (λ a. state_set s a next s.machine.set_state
     >> (permission_set s a next s.machine.set_permission
-    >> ends_body (Fires (record { address = t.address; state = state; event = t.event; next = next }))))
+    >> ends (Fires (record { address = t.address; state = state; event = t.event; next = next }))))
 
 -- of a written transition
 abbrev pub row_tried : Reading → Trigger → ℕ → TransitionSymbol → Acting Tried

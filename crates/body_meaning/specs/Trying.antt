@@ -4,11 +4,9 @@
 use Rattle.std.specs.Prelude.{ℕ, Bool, None, List, [], ◌∷◌, Result, Ok, Err}
 use Rattle.ruby_value.specs.declared.fault.Fault.{Fault}
 use Rattle.run_journal.specs.declared.entry.StopAt.{StopAt}
-use Rattle.ctl_face.specs.LocalView.{LocalView}
-use Rattle.acts.specs.Act.{Act, answer}
-use Rattle.acts.specs.Acting.{Acting, ends as ends_body, stops as stops_body, acts as acts_in, fault_of}
-use Rattle.acts.specs.Done.{Done, does}
-use Rattle.body_meaning.specs.declared.tried.Known.{Known}
+use Rattle.ctl_face.specs.Prelude.{LocalView}
+use Rattle.acts.specs.Prelude.{Act, answer, Acting, ends as ends_body, stops as stops_body, acts as acts_in, fault_of, Done, does}
+use Rattle.body_meaning.specs.declared.frame.Known.{Known}
 
 abbrev pub nothing_known : Known
 nothing_known = record { address = None; state = None; event = None }

@@ -1,7 +1,6 @@
 // The numbers of the built-in calls by their names.
 ghost use Rattle.std.specs.Prelude.{◌≡◌, map};
-ghost use Rattle.body_meaning.specs.CallNumbers.{block_call as block_call_of, cache_call as cache_call_of, callback as callback_of, changes_receiver as changes_receiver_of, directory_call as directory_call_of, entry_call as entry_call_of, index_call as index_call_of, plain_call as plain_call_of, port_call as port_call_of, read_callback as read_callback_of, sequencer_call as sequencer_call_of, set_call as set_call_of, table_call as table_call_of, tbe_call as tbe_call_of, write_callback as write_callback_of};
-ghost use Rattle.body_meaning.specs.CallRows.{number_among as number_among_of};
+ghost use Rattle.body_meaning.specs.Prelude.{block_call, cache_call, callback, changes_receiver, directory_call, entry_call, index_call, plain_call, port_call, read_callback, sequencer_call, set_call, table_call, tbe_call, write_callback, number_among};
 
 use ruby_symbols::TableSort;
 
@@ -57,7 +56,7 @@ const WITHOUT_RECEIVER: [NamedCall; 11] = [
 
 // The number of the first of these calls that has this name.
 fn number_among(name: &[u8], calls: &[NamedCall]) -> Option<u16>
-    ensures { result ≡ number_among_of (map (λ row. (row.0.now, row.1)) calls.now) name.now }
+    ensures { result ≡ number_among (map (λ row. (row.0.now, row.1)) calls.now) name.now }
 {
     let [row, others @ ..] = calls else {
         return None;
@@ -70,7 +69,7 @@ fn number_among(name: &[u8], calls: &[NamedCall]) -> Option<u16>
 
 /// The number of the call of this name on a port, written with this many arguments.
 pub(crate) fn port_call(name: &[u8], count: usize) -> Option<u16>
-    ensures { result ≡ port_call_of name.now count }
+    ensures { result ≡ port_call name.now count }
 {
     if name == b"isReady".as_slice() {
         return Some(0);
@@ -88,26 +87,26 @@ pub(crate) fn port_call(name: &[u8], count: usize) -> Option<u16>
 }
 
 fn cache_call(name: &[u8]) -> Option<u16>
-    ensures { result ≡ cache_call_of name.now }
+    ensures { result ≡ cache_call name.now }
 {
     number_among(name, &ON_CACHES)
 }
 
 fn directory_call(name: &[u8]) -> Option<u16>
-    ensures { result ≡ directory_call_of name.now }
+    ensures { result ≡ directory_call name.now }
 {
     number_among(name, &ON_DIRECTORIES)
 }
 
 fn tbe_call(name: &[u8]) -> Option<u16>
-    ensures { result ≡ tbe_call_of name.now }
+    ensures { result ≡ tbe_call name.now }
 {
     number_among(name, &ON_TBE_TABLES)
 }
 
 /// The number of the call of this name on a table of lines.
 pub(crate) fn table_call(sort: TableSort, name: &[u8]) -> Option<u16>
-    ensures { result ≡ table_call_of sort name.now }
+    ensures { result ≡ table_call sort name.now }
 {
     match sort {
         TableSort::Cache => cache_call(name),
@@ -118,7 +117,7 @@ pub(crate) fn table_call(sort: TableSort, name: &[u8]) -> Option<u16>
 
 /// The number of the index of a table of lines by an address.
 pub(crate) fn index_call(sort: TableSort) -> u16
-    ensures { result ≡ index_call_of sort }
+    ensures { result ≡ index_call sort }
 {
     match sort {
         TableSort::Cache => 5,
@@ -129,14 +128,14 @@ pub(crate) fn index_call(sort: TableSort) -> u16
 
 /// The number of the call of this name on a set of controllers.
 pub(crate) fn set_call(name: &[u8]) -> Option<u16>
-    ensures { result ≡ set_call_of name.now }
+    ensures { result ≡ set_call name.now }
 {
     number_among(name, &ON_SETS)
 }
 
 /// The number of the call of this name on a block.
 pub(crate) fn block_call(name: &[u8]) -> Option<u16>
-    ensures { result ≡ block_call_of name.now }
+    ensures { result ≡ block_call name.now }
 {
     if name == b"clear".as_slice() {
         return Some(30);
@@ -146,7 +145,7 @@ pub(crate) fn block_call(name: &[u8]) -> Option<u16>
 
 /// Whether calls of this name change their receiver, which is a set of controllers or a block.
 pub fn changes_receiver(name: &[u8]) -> bool
-    ensures { result ≡ changes_receiver_of name.now }
+    ensures { result ≡ changes_receiver name.now }
 {
     name == b"add".as_slice()
         || name == b"remove".as_slice()
@@ -157,7 +156,7 @@ pub fn changes_receiver(name: &[u8]) -> bool
 }
 
 fn callback(two: u16, three: u16, four: u16, count: usize) -> u16
-    ensures { result ≡ callback_of two three four count }
+    ensures { result ≡ callback two three four count }
 {
     if count == 2 {
         return two;
@@ -170,20 +169,20 @@ fn callback(two: u16, three: u16, four: u16, count: usize) -> u16
 
 /// The number of `writeCallback` with this many arguments.
 pub fn write_callback(count: usize) -> u16
-    ensures { result ≡ write_callback_of count }
+    ensures { result ≡ write_callback count }
 {
     callback(34, 35, 36, count)
 }
 
 fn read_callback(count: usize) -> u16
-    ensures { result ≡ read_callback_of count }
+    ensures { result ≡ read_callback count }
 {
     callback(31, 32, 33, count)
 }
 
 /// The number of the call of this name on a sequencer, written with this many arguments.
 pub(crate) fn sequencer_call(name: &[u8], count: usize) -> Option<u16>
-    ensures { result ≡ sequencer_call_of name.now count }
+    ensures { result ≡ sequencer_call name.now count }
 {
     if name == b"readCallback".as_slice() {
         return Some(read_callback(count));
@@ -199,7 +198,7 @@ pub(crate) fn sequencer_call(name: &[u8], count: usize) -> Option<u16>
 
 /// The number of the call of this name on a reference to a line.
 pub(crate) fn entry_call(name: &[u8]) -> Option<u16>
-    ensures { result ≡ entry_call_of name.now }
+    ensures { result ≡ entry_call name.now }
 {
     if name == b"changePermission".as_slice() {
         return Some(54);
@@ -209,7 +208,7 @@ pub(crate) fn entry_call(name: &[u8]) -> Option<u16>
 
 /// The number of the call of this name without a receiver.
 pub fn plain_call(name: &[u8]) -> Option<u16>
-    ensures { result ≡ plain_call_of name.now }
+    ensures { result ≡ plain_call name.now }
 {
     number_among(name, &WITHOUT_RECEIVER)
 }

@@ -1,18 +1,16 @@
 // Calls, as far as they need no controller.
 ghost use Rattle.std.specs.Prelude.{◌≡◌, IfOk, find, slice_get, unwrap_or};
-ghost use Rattle.ruby_value.specs.declared.value.Value.TheVariants as value;
 ghost use Rattle.std.specs.Option.{option_copied, option_map};
-ghost use Rattle.body_meaning.specs.Calls.{as_member as as_member_is, called_on as called_on_of, indexed_on as indexed_on_of, is_permission_call as is_permission_call_of, member_among as member_among_of, numbered as numbered_of, on_table as on_table_of, permission_of as permission_of_state, reference_at as reference_at_of, trigger_of as trigger_of_arguments, value_call as value_call_of, with_receiver as with_receiver_of};
-ghost use Rattle.body_meaning.specs.Things.{thing_of as thing_of_answer, value_in as value_in_thing};
-ghost use Rattle.built_in_acts.specs.Values.{address_of_line as address_of_line_is, argument as argument_of, line_named as line_named_of};
+ghost use Rattle.ruby_value.specs.declared.value.Value.TheVariants as value;
+ghost use Rattle.body_meaning.specs.Calls.{as_member, called_on, indexed_on, is_permission_call, member_among, numbered, on_table, permission_of, reference_at, trigger_of, value_call, with_receiver};
+ghost use Rattle.body_meaning.specs.Things.{thing_of, value_in};
 ghost use Rattle.body_meaning.specs.Reading.{reading};
+ghost use Rattle.built_in_acts.specs.Prelude.{address_of_line, argument, line_named};
 
 use crate::call_numbers::{
     block_call, entry_call, index_call, port_call, sequencer_call, set_call, table_call,
 };
-use crate::calls::Numbered;
-use crate::scope::Scope;
-use crate::thing::{Thing, Trigger};
+use crate::{Numbered, Scope, Thing, Trigger};
 use acts::{NoMemory, Ref, Value};
 use built_in_acts::{address_of_line, line_named, member, reference};
 use ruby_base::{Seq, Text};
@@ -21,7 +19,7 @@ use std::alloc::Global;
 
 /// The value that a thing is; another thing counts as false.
 pub fn value_in(t: Thing) -> Value
-    ensures { result ≡ value_in_thing t }
+    ensures { result ≡ value_in t }
 {
     match t {
         Thing::Value(v) => v,
@@ -31,7 +29,7 @@ pub fn value_in(t: Thing) -> Value
 
 /// What a call gives that answers this.
 pub fn thing_of(v: Option<Value>) -> Thing
-    ensures { result ≡ thing_of_answer v }
+    ensures { result ≡ thing_of v }
 {
     match v {
         Some(v) => Thing::Value(v),
@@ -40,7 +38,7 @@ pub fn thing_of(v: Option<Value>) -> Thing
 }
 
 fn numbered(on: u16, number: Option<u16>) -> Option<Numbered>
-    ensures { result ≡ numbered_of on number }
+    ensures { result ≡ numbered on number }
 {
     match number {
         Some(number) => Some(Numbered { number, on }),
@@ -50,7 +48,7 @@ fn numbered(on: u16, number: Option<u16>) -> Option<Numbered>
 
 /// The number of the call of this name on a value.
 pub fn value_call(v: &Value, name: &[u8]) -> Option<u16>
-    ensures { result ≡ value_call_of v.now name.now }
+    ensures { result ≡ value_call v.now name.now }
 {
     match v {
         Value::Dest(_) => set_call(name),
@@ -61,7 +59,7 @@ pub fn value_call(v: &Value, name: &[u8]) -> Option<u16>
 }
 
 fn on_table(m: &MachineSymbols, name: &[u8], table: u16) -> Option<Numbered>
-    ensures { result ≡ on_table_of name.now table (slice_get m.now.tables table) }
+    ensures { result ≡ on_table name.now table (slice_get m.now.tables table) }
 {
     match m.tables.get(usize::from(table)) {
         Some(t) => numbered(table, table_call(t.sort, name)),
@@ -76,7 +74,7 @@ pub fn called_on(
     name: &[u8],
     count: usize,
 ) -> Option<Numbered>
-    ensures { result ≡ called_on_of m.now receiver.now name.now count }
+    ensures { result ≡ called_on m.now receiver.now name.now count }
 {
     match receiver {
         Thing::Port(buffer) => numbered(*buffer, port_call(name, count)),
@@ -89,7 +87,7 @@ pub fn called_on(
 
 /// The index of a table by an address.
 pub fn indexed_on(m: &MachineSymbols, receiver: &Thing) -> Option<Numbered>
-    ensures { result ≡ indexed_on_of m.now receiver.now }
+    ensures { result ≡ indexed_on m.now receiver.now }
 {
     let Thing::Table(table) = receiver else {
         return None;
@@ -105,7 +103,7 @@ pub fn indexed_on(m: &MachineSymbols, receiver: &Thing) -> Option<Numbered>
 
 /// The arguments, with a receiver that is a value as the first.
 pub fn with_receiver(receiver: Thing, mut arguments: Seq<Value>) -> Result<Seq<Value>, NoMemory>
-    ensures { IfOk result (λ all. all ≡ with_receiver_of receiver arguments) }
+    ensures { IfOk result (λ all. all ≡ with_receiver receiver arguments) }
 {
     if let Thing::Value(v) = receiver {
         arguments.insert(0, v)?;
@@ -114,7 +112,7 @@ pub fn with_receiver(receiver: Thing, mut arguments: Seq<Value>) -> Result<Seq<V
 }
 
 fn member_among(k: u16, e: Option<&EnumerationSymbol>) -> u16
-    ensures { result ≡ member_among_of k (option_copied e.entry) }
+    ensures { result ≡ member_among k (option_copied e.entry) }
 {
     match e {
         Some(e) if usize::from(k) < e.members.len() => k,
@@ -124,7 +122,7 @@ fn member_among(k: u16, e: Option<&EnumerationSymbol>) -> u16
 
 /// The number of the member of an enumeration that a value is, and 0 if it is none.
 pub fn as_member(s: Scope<'_>, enumeration: u16, v: &Value) -> u16
-    ensures { result ≡ as_member_is (reading s.entry) enumeration v.now }
+    ensures { result ≡ as_member (reading s.entry) enumeration v.now }
 {
     match v {
         Value::Enum(number, k) => {
@@ -139,7 +137,7 @@ pub fn as_member(s: Scope<'_>, enumeration: u16, v: &Value) -> u16
 }
 
 fn event_at(s: Scope<'_>, arguments: &[Value]) -> u16
-    ensures { result ≡ as_member_is (reading s.entry) (reading s.entry).machine.events (argument_of arguments.now 0) }
+    ensures { result ≡ as_member (reading s.entry) (reading s.entry).machine.events (argument arguments.now 0) }
 {
     match arguments.get(0) {
         Some(v) => as_member(s, s.machine.events, v),
@@ -148,7 +146,7 @@ fn event_at(s: Scope<'_>, arguments: &[Value]) -> u16
 }
 
 fn line_address_at(arguments: &[Value], i: usize) -> u64
-    ensures { result ≡ address_of_line_is (line_named_of (argument_of arguments.now i)) }
+    ensures { result ≡ address_of_line (line_named (argument arguments.now i)) }
 {
     match arguments.get(i) {
         Some(v) => address_of_line(line_named(v)),
@@ -158,7 +156,7 @@ fn line_address_at(arguments: &[Value], i: usize) -> u64
 
 /// The reference that the argument at a place is, where there is to be one.
 pub fn reference_at(is_there: bool, arguments: &[Value], i: usize) -> Option<Ref>
-    ensures { result ≡ reference_at_of is_there arguments.now i }
+    ensures { result ≡ reference_at is_there arguments.now i }
 {
     if !is_there {
         return None;
@@ -171,7 +169,7 @@ pub fn reference_at(is_there: bool, arguments: &[Value], i: usize) -> Option<Ref
 
 /// What a `trigger` with these arguments asks for.
 pub fn trigger_of(s: Scope<'_>, arguments: &[Value]) -> Trigger
-    ensures { result ≡ trigger_of_arguments (reading s.entry) arguments.now }
+    ensures { result ≡ trigger_of (reading s.entry) arguments.now }
 {
     let has_entry = s.machine.entry.is_some();
     let tbe_at = if has_entry { 3 } else { 2 };
@@ -193,7 +191,7 @@ fn permission_of(m: &MachineSymbols, state: u16) -> Value
 }
 
 fn permission_at(m: &MachineSymbols, arguments: &[Value]) -> Value
-    ensures { result ≡ permission_of_state m.now (argument_of arguments.now 0) }
+    ensures { result ≡ permission_of m.now (argument arguments.now 0) }
 {
     match arguments.get(0) {
         Some(state) => permission_of(m, member(state)),
@@ -202,7 +200,7 @@ fn permission_at(m: &MachineSymbols, arguments: &[Value]) -> Value
 }
 
 fn is_permission_call(alloc: Global, name: &[u8], m: &MachineSymbols) -> Result<bool, NoMemory>
-    ensures { IfOk result (λ is_it. is_it ≡ is_permission_call_of name.now m.now) }
+    ensures { IfOk result (λ is_it. is_it ≡ is_permission_call name.now m.now) }
 {
     let mut call = Text::copied(alloc, m.name.as_slice())?;
     call.append(b"_State_to_permission")?;
@@ -216,8 +214,8 @@ pub fn permission_called(
     name: &[u8],
     arguments: &[Value],
 ) -> Result<Option<Value>, NoMemory>
-    ensures { IfOk result (λ v. v ≡ option_map (λ m. permission_of_state m (argument_of arguments.now 0))
-        (find (is_permission_call_of name.now) machines.now)) }
+    ensures { IfOk result (λ v. v ≡ option_map (λ m. permission_of m (argument arguments.now 0))
+        (find (is_permission_call name.now) machines.now)) }
 {
     let [m, others @ ..] = machines else {
         return Ok(None);

@@ -6,8 +6,8 @@ use Rattle.slicc_ast.specs.declared.tree.statement.Block.{Block}
 use Rattle.slicc_ast.specs.declared.tree.statement.If.{If, If', None', Some', Row_of-ElseIf, end_of-ElseIf, more_of-ElseIf, items-the_row-ElseIf, out-If}
 use Rattle.slicc_ast.specs.declared.tree.statement.Stmt.{Row_of-Stmt, end_of-Stmt, more_of-Stmt, items-the_row-Stmt}
 use Rattle.slicc_ast.specs.declared.tree.statement.Stmt.TheViews.{the_lemmas}
-use Rattle.slicc_plan.specs.Returns.{ends, if_ends, others_end, row_ends}
-use Rattle.body_rules.specs.Arms.{arm_ends}
+use Rattle.slicc_plan.specs.Prelude.{ends, if_ends, others_end, row_ends}
+use Rattle.body_rules.specs.Prelude.{arm_ends}
 
 pub ending_row : (n : _) (row : Row_of-Stmt n) → row_ends row ≡ list_any ends (items-the_row-Stmt n row)
 ending_row n end_of-Stmt = refl

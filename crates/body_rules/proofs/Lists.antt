@@ -2,7 +2,7 @@
 use Rattle.std.proofs.Common.{◌≡◌, ◌<◌, ◌+◌, ◌++◌, ◌∙◌, ℕ, Option, List, ap, flat_map, get_or, length, map, sym, take}
 use Rattle.std.proofs.lemmas.List.Folds.{flat_map-map}
 use Rattle.slicc_plan.specs.declared.broken.Broken.{Broken}
-use Rattle.slicc_plan.specs.Order.{earlier_of_both, first_after, first_of}
+use Rattle.slicc_plan.specs.Prelude.{earlier_of_both, first_after, first_of}
 use Rattle.slicc_plan.proofs.Firsts.{first_after-append, first_after-first_of, first_after-flat_map}
 
 pub lists_in_a_row : (first : Option Broken) (bs cs : List Broken) → first_after first (bs ++ cs) ≡ first_after (first_after first bs) cs

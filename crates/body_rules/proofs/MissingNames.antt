@@ -3,14 +3,12 @@ use Rattle.std.proofs.Common.{◌≡◌, ℕ, Bool, true, false, cond, is_none, 
 use Rattle.slicc_ast.specs.declared.tree.name.Name.{Name}
 use Rattle.slicc_ast.specs.declared.tree.machine.Machine.{Machine}
 use Rattle.slicc_ast.specs.declared.tree.machine.Transition.{Transition}
-use Rattle.slicc_plan.specs.Declarations.{Declaration, is_named}
-use Rattle.slicc_plan.specs.Limits.{event_members, state_members}
-use Rattle.slicc_plan.specs.Machines.{actions_of, names_in, transitions_of}
-use Rattle.slicc_plan.specs.TransitionNames.{listed_name, missing_among, missing_in, not_there}
+use Rattle.slicc_plan.specs.Prelude.{Declaration, is_named, event_members, state_members, actions_of, transitions_of, listed_name, missing_among, missing_in, not_there}
+use Rattle.slicc_plan.specs.Machines.{names_in}
 use Rattle.declaration_rules.proofs.Steps.{flat_map_same}
 use Rattle.machine_table.specs.declared.numbers.PartNumbers.{PartNumbers}
-use Rattle.machine_table.specs.Found.{AreNumbersOf, Finding, found_by}
-use Rattle.body_rules.specs.MissingBy.{missing_by, missing_with}
+use Rattle.machine_table.specs.Prelude.{AreNumbersOf, Finding, found_by}
+use Rattle.body_rules.specs.Prelude.{missing_by, missing_with}
 
 one_name : (b : Bool) (n : Name) (ms : List Name) → cond b (not_there n ∷ []) [] ++ map not_there ms ≡ map not_there (cond b (n ∷ ms) ms)
 one_name true n ms = refl

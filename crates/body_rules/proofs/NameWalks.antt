@@ -2,9 +2,9 @@
 use Rattle.std.proofs.Common.{◌≡◌, List, [], ◌∷◌, ◌++◌, map, flat_map, refl, ap}
 use Rattle.slicc_ast.specs.declared.tree.item.Tree.{Tree}
 use Rattle.slicc_ast.specs.declared.tree.machine.Machine.{Machine}
-use Rattle.slicc_plan.specs.Declarations.{Declaration, machine, enumeration, structure, states, parameter, object, out_port, in_port, action, function, symbol, state, member, formal, local, within, machines_of, wide_scopes}
-use Rattle.slicc_plan.specs.TransitionNames.{wrong_names, wrong_names_in, wrong_permissions}
-use Rattle.body_rules.specs.NamesInScopes.{wrong_names_within, wrong_states}
+use Rattle.slicc_plan.specs.Declarations.{enumeration, structure, out_port, in_port}
+use Rattle.slicc_plan.specs.Prelude.{Declaration, machine, states, parameter, object, action, function, symbol, state, member, formal, local, within, machines_of, wide_scopes, wrong_names, wrong_names_in, wrong_permissions}
+use Rattle.body_rules.specs.Prelude.{wrong_names_within, wrong_states}
 
 within_same : (trees : List Tree) (ms : List Machine) → flat_map (wrong_names_within trees) (map within ms) ≡ flat_map (wrong_names_in trees) ms
 within_same trees [] = refl

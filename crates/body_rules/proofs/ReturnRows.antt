@@ -9,10 +9,9 @@ use Rattle.slicc_ast.specs.declared.tree.statement.If.{If, If', None', Some', Ro
 use Rattle.slicc_ast.specs.declared.tree.statement.Stmt.{Row_of-Stmt, end_of-Stmt, more_of-Stmt, items-the_row-Stmt}
 use Rattle.slicc_ast.specs.declared.tree.statement.Stmt.TheViews.{the_lemmas}
 use Rattle.slicc_plan.specs.declared.broken.Broken.{Broken}
-use Rattle.slicc_plan.specs.Order.{earlier_of_both, first_of}
+use Rattle.slicc_plan.specs.Prelude.{earlier_of_both, first_of, ReturnAt, if_returns, no_return, others_returns, returns_in, row_returns}
 use Rattle.slicc_plan.proofs.Firsts.{both-assoc_all, first_of-append}
-use Rattle.slicc_plan.specs.Returns.{ReturnAt, if_returns, no_return, others_returns, returns_in, row_returns}
-use Rattle.body_rules.specs.Arms.{arm_returns, wrong_among}
+use Rattle.body_rules.specs.Prelude.{arm_returns, wrong_among}
 
 pub returning_row : (n : _) (row : Row_of-Stmt n) → row_returns row ≡ flat_map returns_in (items-the_row-Stmt n row)
 returning_row n end_of-Stmt = refl

@@ -2,9 +2,8 @@
 use Rattle.std.proofs.Common.{◌≡◌, List, [], ◌∷◌, ◌++◌, ap, flat_map, map, refl}
 use Rattle.slicc_ast.specs.declared.tree.item.Tree.{Tree}
 use Rattle.slicc_ast.specs.declared.tree.machine.Machine.{Machine}
-use Rattle.slicc_plan.specs.BrokenBodies.{broken_in_machine}
-use Rattle.slicc_plan.specs.Declarations.{machines_of, wide_scopes, within}
-use Rattle.body_rules.specs.InScopes.{broken_within}
+use Rattle.slicc_plan.specs.Prelude.{broken_in_machine, machines_of, wide_scopes, within}
+use Rattle.body_rules.specs.Prelude.{broken_within}
 
 within_same : (trees : List Tree) (ms : List Machine) → flat_map (broken_within trees) (map within ms) ≡ flat_map (broken_in_machine trees) ms
 within_same trees [] = refl

@@ -4,14 +4,14 @@ use Rattle.std.proofs.lemmas.Grind.{flat_map-append}
 use Rattle.std.proofs.lemmas.List.Folds.{flat_map-map}
 use Rattle.slicc_ast.specs.declared.tree.item.Tree.{Tree}
 use Rattle.slicc_ast.specs.declared.tree.item.Item.{Item}
-use Rattle.slicc_ast.specs.declared.tree.item.Item.TheVariants.{Include, Enumeration as EnumerationItem, Structure as StructureItem, Machine as MachineItem}
+use Rattle.slicc_ast.specs.declared.tree.item.Item.TheVariants.{Include, Enumeration, Structure, Machine as MachineItem}
 use Rattle.slicc_ast.specs.declared.tree.declaration.Function.TheVariants.{Plain, Skipped}
 use Rattle.slicc_ast.specs.declared.tree.machine.Machine.{Machine}
 use Rattle.slicc_plan.specs.declared.broken.Broken.{Broken}
-use Rattle.slicc_plan.specs.Declarations.{Declaration, machine, enumeration, structure, states, parameter, object, out_port, in_port, action, function, symbol, state, member, formal, local, everywhere, within, item_declarations, machine_declarations, machines_of, wide_scopes}
-use Rattle.slicc_plan.specs.Returns.{missing_returns, wrong_ways, wrong_ways_in}
+use Rattle.slicc_plan.specs.Declarations.{enumeration, structure, out_port, in_port}
+use Rattle.slicc_plan.specs.Prelude.{Declaration, machine, states, parameter, object, action, function, symbol, state, member, formal, local, everywhere, within, item_declarations, machine_declarations, machines_of, wide_scopes, missing_returns, wrong_ways, wrong_ways_in}
 use Rattle.declaration_rules.proofs.Steps.{flat_map_same}
-use Rattle.body_rules.specs.Ways.{ways_in, ways_of}
+use Rattle.body_rules.specs.Prelude.{ways_in, ways_of}
 
 -- in a machine
 
@@ -46,8 +46,8 @@ none_nested f g none (x ∷ xs) =
 
 none_of_item : (trees : List Tree) (i : Item) → flat_map (ways_of trees everywhere) (item_declarations i) ≡ []
 none_of_item trees (Include text span) = refl
-none_of_item trees (EnumerationItem e) = refl
-none_of_item trees (StructureItem s) = refl
+none_of_item trees (Enumeration e) = refl
+none_of_item trees (Structure s) = refl
 none_of_item trees (MachineItem m) = refl
 
 ways_everywhere : (trees : List Tree) → ways_in trees everywhere ≡ []

@@ -4,7 +4,7 @@ use Rattle.std.specs.List.{list_any}
 use Rattle.slicc_ast.specs.declared.tree.span.Span.{Span}
 use Rattle.slicc_ast.specs.declared.tree.statement.ElseIf.{ElseIf}
 use Rattle.slicc_plan.specs.declared.broken.Broken.{Broken}
-use Rattle.slicc_plan.specs.Returns.{ReturnAt, ends, no_return, returns_in}
+use Rattle.slicc_plan.specs.Prelude.{ReturnAt, ends, no_return, returns_in}
 
 abbrev pub arm_ends : ElseIf → Bool
 arm_ends e = list_any ends e.then.statements

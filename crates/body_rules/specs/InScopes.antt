@@ -2,8 +2,7 @@
 use Rattle.std.specs.Prelude.{List, []}
 use Rattle.slicc_ast.specs.declared.tree.item.Tree.{Tree}
 use Rattle.slicc_plan.specs.declared.broken.Broken.{Broken}
-use Rattle.slicc_plan.specs.BrokenBodies.{broken_in_machine}
-use Rattle.slicc_plan.specs.Declarations.{Scope, everywhere, within}
+use Rattle.slicc_plan.specs.Prelude.{broken_in_machine, Scope, everywhere, within}
 
 abbrev pub broken_within : List Tree → Scope → List Broken
 broken_within trees everywhere = []

@@ -4,3 +4,4 @@ pub mod Arms
 pub mod Ways
 pub mod NamesInScopes
 pub mod MissingBy
+pub mod Prelude

@@ -1,8 +1,8 @@
 -- A machine of a protocol, with its scope and the structures of its lines.
 use Rattle.std.specs.Prelude.{◌≡◌}
-use Rattle.slicc_plan.specs.Declarations.{within}
-use Rattle.declared_types.specs.Scopes.{scope_at}
-use Rattle.body_types.specs.Lines.{AreLines}
+use Rattle.slicc_plan.specs.Prelude.{within}
+use Rattle.declared_types.specs.Prelude.{scope_at}
+use Rattle.body_types.specs.Prelude.{AreLines}
 use Rattle.body_rules.specs.declared.machine_in.MachineIn.{MachineIn}
 
 -- the scope is the machine's, and the structures are those of its lines

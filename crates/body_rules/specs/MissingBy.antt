@@ -4,9 +4,9 @@ use Rattle.slicc_ast.specs.declared.tree.name.Name.{Name}
 use Rattle.slicc_ast.specs.declared.tree.machine.Transition.{Transition}
 use Rattle.slicc_plan.specs.declared.broken.Broken.{Broken}
 use Rattle.slicc_plan.specs.Machines.{names_in}
-use Rattle.slicc_plan.specs.TransitionNames.{listed_name, not_there}
+use Rattle.slicc_plan.specs.Prelude.{listed_name, not_there}
 use Rattle.machine_table.specs.declared.numbers.PartNumbers.{PartNumbers}
-use Rattle.machine_table.specs.Found.{Finding, found_by}
+use Rattle.machine_table.specs.Prelude.{Finding, found_by}
 
 abbrev pub missing_by : Finding → Name → List Broken
 missing_by found n = cond (is_none (found n.text)) (not_there n ∷ []) []

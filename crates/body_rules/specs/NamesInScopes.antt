@@ -3,9 +3,7 @@ use Rattle.std.specs.Prelude.{List, [], flat_map}
 use Rattle.slicc_ast.specs.declared.tree.item.Tree.{Tree}
 use Rattle.slicc_ast.specs.declared.tree.declaration.State.{State}
 use Rattle.slicc_plan.specs.declared.broken.Broken.{Broken}
-use Rattle.slicc_plan.specs.Declarations.{Declaration, Scope, everywhere, states, within}
-use Rattle.slicc_plan.specs.TransitionNames.{wrong_names_in, wrong_permission}
-use Rattle.slicc_plan.specs.Types.{type_in}
+use Rattle.slicc_plan.specs.Prelude.{Declaration, Scope, everywhere, states, within, wrong_names_in, wrong_permission, type_in}
 
 abbrev pub wrong_state_of : List Tree → Scope → State → List Broken
 wrong_state_of trees scope s = wrong_permission s (type_in trees scope s.owner.text)

@@ -5,9 +5,8 @@ use Rattle.slicc_ast.specs.declared.tree.item.Tree.{Tree}
 use Rattle.slicc_ast.specs.declared.tree.declaration.Function.TheVariants.{Plain}
 use Rattle.slicc_plan.specs.declared.broken.Broken.{Broken}
 use Rattle.slicc_plan.specs.declared.built_in.BuiltInType.TheVariants.{Void}
-use Rattle.slicc_plan.specs.Declarations.{Declaration, Scope, action, declared_in, function, in_port}
-use Rattle.slicc_plan.specs.Returns.{wrong_ends, wrong_returns}
-use Rattle.slicc_plan.specs.Types.{is_built_in, type_in}
+use Rattle.slicc_plan.specs.Declarations.{in_port}
+use Rattle.slicc_plan.specs.Prelude.{Declaration, Scope, action, declared_in, function, wrong_ends, wrong_returns, is_built_in, type_in}
 
 abbrev pub ways_of : List Tree → Scope → Declaration → List Broken
 ways_of trees scope (in_port p) = wrong_returns false p.body

@@ -1,14 +1,12 @@
-//! The bodies of all machines.
+//! The bodies of all machines, and the names in their transitions and states.
 ghost use Rattle.std.specs.Prelude.{◌≡◌, IfOk, flat_map};
-ghost use Rattle.slicc_plan.specs.BrokenBodies.{broken_bodies, broken_in_machine};
-ghost use Rattle.slicc_plan.specs.Declarations.{machines_of};
-ghost use Rattle.slicc_plan.specs.Order.{first_after, first_of};
-ghost use Rattle.declared_types.specs.Scopes.{scope_at};
-ghost use Rattle.body_rules.specs.InScopes.{broken_within};
+ghost use Rattle.slicc_plan.specs.Prelude.{broken_bodies, broken_in_machine, machines_of, first_after, first_of, wrong_names};
+ghost use Rattle.declared_types.specs.Prelude.{scope_at};
+ghost use Rattle.body_rules.specs.Prelude.{broken_within, wrong_names_within};
 
-use crate::all_scopes::wrong_names;
 use crate::declarations::judge_machine;
 use crate::machine_in::machine_in;
+use crate::missing::{judge_permissions, missing_names};
 use crate::ways::missing_returns;
 use declared_types::{Scope, Scopes};
 use ruby_base::NoMemory;
@@ -36,6 +34,38 @@ fn broken_in_machines(alloc: Global, scopes: &Scopes<'_>) -> Result<Option<Broke
     let mut found = None;
     for number in 0..scopes.len() {
         found = judge_scope(alloc, found, scopes, number)?;
+    }
+    Ok(found)
+}
+
+fn judge_names(
+    alloc: Global,
+    first: Option<Broken>,
+    scopes: &Scopes<'_>,
+    number: usize,
+) -> Result<Option<Broken>, NoMemory>
+    ensures { IfOk result (λ found. found ≡ first_after first (wrong_names_within scopes.now.trees.now (scope_at scopes.now.trees.now number))) }
+{
+    match scopes.scope(number) {
+        Scope::Everywhere => Ok(first),
+        Scope::Within(m) => {
+            let named = missing_names(alloc, first, m)?;
+            Ok(judge_permissions(named, scopes, number))
+        }
+    }
+}
+
+// The first broken rule, after the names in transitions and the permissions of states of all machines.
+fn wrong_names(
+    alloc: Global,
+    first: Option<Broken>,
+    scopes: &Scopes<'_>,
+) -> Result<Option<Broken>, NoMemory>
+    ensures { IfOk result (λ found. found ≡ first_after first (wrong_names scopes.now.trees.now)) }
+{
+    let mut found = first;
+    for number in 0..scopes.len() {
+        found = judge_names(alloc, found, scopes, number)?;
     }
     Ok(found)
 }

@@ -1,22 +1,22 @@
-//! What is broken in the declarations of a machine, one after another.
-ghost use Rattle.std.specs.Prelude.{◌≡◌, IfOk};
-ghost use Rattle.slicc_plan.specs.BrokenBodies.{broken_function, broken_in_declaration, broken_in_machine, broken_port, port_environment};
-ghost use Rattle.slicc_plan.specs.Declarations.{function, in_port};
-ghost use Rattle.slicc_plan.specs.Environment.{wrong_value_name};
-ghost use Rattle.slicc_plan.specs.Meanings.{table_of};
-ghost use Rattle.slicc_plan.specs.Order.{first_after, first_of};
+//! What is broken in the declarations of a machine, one after another, and the types of what is declared.
+ghost use Rattle.std.specs.Prelude.{◌≡◌, IfOk, flat_map};
+ghost use Rattle.slicc_plan.specs.Prelude.{broken_function, broken_in_declaration, broken_in_machine, broken_port, port_environment, function, wrong_value_name, table_of, first_after, first_of, wrong_formal, wrong_type_in, within, is_answer_type, is_message, is_object_type, unless};
+ghost use Rattle.slicc_plan.specs.Declarations.{in_port};
 ghost use Rattle.slicc_plan.specs.declared.built_in.BuiltInType.TheVariants.{Buffer};
-ghost use Rattle.declared_types.specs.Lent.{declaration_of};
-ghost use Rattle.body_rules.specs.MachinesIn.{IsMachineIn};
+ghost use Rattle.declared_types.specs.Prelude.{declaration_of};
+ghost use Rattle.body_rules.specs.Prelude.{IsMachineIn};
+ghost use Rattle.slicc_plan.specs.declared.broken.Rule.TheVariants.{WrongType};
 
 use crate::bodies::{action_body, function_body, port_body};
-use crate::kinds::{wrong_answer, wrong_formals, wrong_message, wrong_object};
-use crate::machine_in::{MachineIn, bare_environment};
-use body_types::{BodySort, Meaning, Wanted, wrong_value_name};
+use crate::machine_in::{MachineIn, bare_environment, type_of_name};
+use body_types::{
+    BodySort, Meaning, Wanted, is_answer_type, is_message, is_object_type, is_value, unless,
+    wrong_value_name,
+};
 use declared_types::Declared;
 use ruby_base::NoMemory;
 use slicc_ast::tree::{Block, Formal, Function, InPort, Name, TypeName};
-use slicc_plan::{Broken, BuiltInType, earlier_of_two};
+use slicc_plan::{Broken, BuiltInType, Rule, earlier_of_two};
 use std::alloc::Global;
 
 // What is told of the name of what a port is on.
@@ -104,10 +104,7 @@ fn broken_in_declaration<'a>(
         Declared::InPort(p) => broken_in_port(alloc, m, p),
         Declared::Action(a) => action_body(alloc, m, &a.body),
         Declared::Function(f) => broken_in_function(alloc, m, f),
-        Declared::Machine(_)
-        | Declared::Enumeration(_)
-        | Declared::Structure(_)
-        | Declared::States(_) => Ok(None),
+        _ => Ok(None),
     }
 }
 
@@ -126,4 +123,67 @@ pub fn judge_machine(
         found = earlier_of_two(found, more);
     }
     Ok(found)
+}
+
+// What is told of the type at this place.
+fn told_unless(is_right: bool, kind: &TypeName) -> Option<Broken>
+    ensures { result ≡ first_of (unless is_right WrongType kind.now.span) }
+{
+    unless(is_right, Rule::WrongType, kind.span)
+}
+
+// What is told of the type of a port's messages.
+fn wrong_message<'a>(m: MachineIn<'_, 'a>, kind: &TypeName) -> Option<Broken>
+    requires { IsMachineIn m }
+    ensures { result ≡ first_of (wrong_type_in m.entry.scopes.now.trees.now m.entry.lines.machine.now is_message kind.now) }
+{
+    match type_of_name(m, kind) {
+        None => None,
+        Some(t) => told_unless(is_message(t), kind),
+    }
+}
+
+// What is told of the type of a parameter or an object.
+fn wrong_object<'a>(m: MachineIn<'_, 'a>, kind: &TypeName) -> Option<Broken>
+    requires { IsMachineIn m }
+    ensures { result ≡ first_of (wrong_type_in m.entry.scopes.now.trees.now m.entry.lines.machine.now (is_object_type m.entry.lines.machine.now) kind.now) }
+{
+    match type_of_name(m, kind) {
+        None => None,
+        Some(t) => told_unless(is_object_type(m.lines, t), kind),
+    }
+}
+
+// What is told of the type of what a function answers.
+fn wrong_answer<'a>(m: MachineIn<'_, 'a>, kind: &TypeName) -> Option<Broken>
+    requires { IsMachineIn m }
+    ensures { result ≡ first_of (wrong_type_in m.entry.scopes.now.trees.now m.entry.lines.machine.now (is_answer_type m.entry.lines.machine.now) kind.now) }
+{
+    match type_of_name(m, kind) {
+        None => None,
+        Some(t) => told_unless(is_answer_type(m.lines, t), kind),
+    }
+}
+
+// What is told of the type of a formal.
+fn wrong_formal<'a>(m: MachineIn<'_, 'a>, f: &Formal) -> Option<Broken>
+    requires { IsMachineIn m }
+    ensures { result ≡ first_of (wrong_formal m.entry.scopes.now.trees.now m.entry.lines.machine.now f.now) }
+{
+    match type_of_name(m, &f.kind) {
+        None => None,
+        Some(t) => told_unless(is_value(m.lines, t), &f.kind),
+    }
+}
+
+// What is told first of the types of formals.
+fn wrong_formals<'a>(m: MachineIn<'_, 'a>, formals: &[Formal]) -> Option<Broken>
+    requires { IsMachineIn m }
+    ensures { result ≡ first_of (flat_map (wrong_formal m.entry.scopes.now.trees.now m.entry.lines.machine.now) formals.now) }
+{
+    let mut first = None;
+    for f in formals {
+        first = earlier_of_two(first, wrong_formal(m, f));
+    }
+    first
 }

@@ -4,15 +4,10 @@
 #![tactic(auto)]
 
 mod all;
-mod all_scopes;
 mod bodies;
 mod declarations;
-mod ending;
-mod kinds;
 mod machine_in;
 mod missing;
-mod own_names;
-mod owners;
 mod returning;
 mod ways;
 

@@ -1,18 +1,15 @@
 //! A machine with its scope and the structures of its lines, and the environments of its bodies.
 ghost use Rattle.std.specs.Prelude.{◌≡◌, List, [], map, reverse};
-ghost use Rattle.slicc_plan.specs.BrokenBodies.{environment};
-ghost use Rattle.slicc_plan.specs.Declarations.{within};
-ghost use Rattle.declared_types.specs.Scopes.{scope_at};
-ghost use Rattle.body_types.specs.declared.environment.Bound.{Bound as BoundRecord};
-ghost use Rattle.body_types.specs.Environments.{IsEnvironment, bound_of, sort_of};
-ghost use Rattle.body_types.specs.Lines.{AreLines};
-ghost use Rattle.body_types.specs.Views.{meaning_of};
-ghost use Rattle.statement_rules.specs.Bindings.{at};
+ghost use Rattle.slicc_plan.specs.Prelude.{environment, type_in, within};
+ghost use Rattle.declared_types.specs.Prelude.{scope_at};
+ghost use Rattle.body_types.specs.declared.environment.Bound.{Bound};
+ghost use Rattle.body_types.specs.Prelude.{IsEnvironment, bound_of, sort_of, type_if, AreLines, meaning_of};
+ghost use Rattle.statement_rules.specs.Prelude.{at};
 ghost use Rattle.body_rules.specs.MachinesIn.{IsMachineIn};
 
 use body_types::{BodySort, Environment, Lines, Meaning};
-use declared_types::{LineSort, Scopes, first_line};
-use slicc_ast::tree::Machine;
+use declared_types::{KnownType, LineSort, Scopes, first_line};
+use slicc_ast::tree::{Machine, TypeName};
 
 /// A machine of a protocol.
 #[derive(Clone, Copy)]
@@ -68,7 +65,7 @@ pub fn bare_environment<'b, 'a>(
     requires { IsMachineIn m }
     ensures sound { IsEnvironment result }
     ensures none { result.bound.now ≡ [] }
-    ensures is { (names : List BoundRecord) → at result names
+    ensures is { (names : List Bound) → at result names
         ≡ environment m.entry.scopes.now.trees.now m.entry.lines.machine.now (sort_of sort) (meaning_of answer.entry) (reverse (map bound_of names)) }
 {
     Environment {
@@ -79,4 +76,12 @@ pub fn bare_environment<'b, 'a>(
         answer,
         bound: &[],
     }
+}
+
+/// What the name of a type stands for in the machine, where it stands for one.
+pub fn type_of_name<'a>(m: MachineIn<'_, 'a>, kind: &TypeName) -> Option<KnownType<'a>>
+    requires { IsMachineIn m }
+    ensures { type_if result ≡ type_in m.entry.scopes.now.trees.now (within m.entry.lines.machine.now) kind.now.text }
+{
+    m.scopes.type_in(m.scope, kind.text.as_slice())
 }

@@ -1,30 +1,25 @@
-//! Names of states, events and actions in transitions, each of which the machine has to have.
-ghost use Rattle.std.specs.Prelude.{◌≡◌, [], ◌∷◌, flat_map, IfOk};
-ghost use Rattle.slicc_plan.specs.Machines.{names_in, transition_in, transitions_of};
-ghost use Rattle.slicc_plan.specs.Order.{first_after};
-ghost use Rattle.slicc_plan.specs.TransitionNames.{listed_name, missing_in, not_there};
-ghost use Rattle.machine_table.specs.Found.{found_by};
-ghost use Rattle.body_rules.specs.MissingBy.{missing_by, missing_with};
+//! Names of states, events and actions in transitions, each of which the machine has to have; and the permissions of states.
+ghost use Rattle.std.specs.Prelude.{◌≡◌, [], ◌∷◌, flat_map, IfOk, Some};
+ghost use Rattle.slicc_plan.specs.Machines.{names_in};
+ghost use Rattle.slicc_plan.specs.Prelude.{transition_in, transitions_of, first_after, listed_name, missing_in, not_there, declared_in, wrong_permission};
+ghost use Rattle.machine_table.specs.Prelude.{found_by};
+ghost use Rattle.body_rules.specs.Prelude.{missing_by, missing_with, wrong_states, wrong_state_of};
+ghost use Rattle.std.specs.Option.{option_map};
+ghost use Rattle.declared_types.specs.Prelude.{declaration_of, type_of, scope_at};
 
+use declaration_rules::{earlier_at, has_member, is_built_in};
+use declared_types::{Declared, KnownType, Scopes};
 use machine_table::{Numbers, PartNumbers, part_numbers};
 use ruby_base::NoMemory;
-use slicc_ast::tree::{Decl, Machine, Name, Names, Transition};
-use slicc_plan::{Broken, Rule, earlier_broken};
+use slicc_ast::tree::{Decl, Machine, Name, Names, State, Transition};
+use slicc_plan::{Broken, BuiltInType, Rule};
 use std::alloc::Global;
 
-/// The first broken rule, after a name of what isn't there.
-pub fn judge_absent(first: Option<Broken>, name: &Name) -> Option<Broken>
+// The first broken rule, after a name of what isn't there.
+fn judge_absent(first: Option<Broken>, name: &Name) -> Option<Broken>
     ensures { result ≡ first_after first (not_there name.now ∷ []) }
 {
-    earlier_broken(
-        first,
-        Broken {
-            rule: Rule::NotThere,
-            machine: 0,
-            place: name.span,
-            other: None,
-        },
-    )
+    earlier_at(first, Rule::NotThere, 0, name.span)
 }
 
 fn judge_name(first: Option<Broken>, numbers: &Numbers, name: &Name) -> Option<Broken>
@@ -102,4 +97,81 @@ pub fn missing_names(
 {
     let own = part_numbers(alloc, m)?;
     Ok(judge_transitions(first, &own, m.declarations.as_slice()))
+}
+
+fn judge_owner(
+    first: Option<Broken>,
+    scopes: &Scopes<'_>,
+    t: KnownType<'_>,
+    s: &State,
+) -> Option<Broken>
+    ensures { result ≡ first_after first (wrong_permission s.now (Some (type_of t.entry))) }
+{
+    if !is_built_in(BuiltInType::AccessPermission, Some(t)) {
+        return earlier_at(first, Rule::WrongType, 0, s.owner.span);
+    }
+    let all = KnownType::BuiltIn(BuiltInType::AccessPermission);
+    if has_member(scopes, all, s.permission.text.as_slice()) {
+        first
+    } else {
+        judge_absent(first, &s.permission)
+    }
+}
+
+fn judge_state(
+    first: Option<Broken>,
+    scopes: &Scopes<'_>,
+    number: usize,
+    s: &State,
+) -> Option<Broken>
+    ensures { result ≡ first_after first (wrong_state_of scopes.now.trees.now (scope_at scopes.now.trees.now number) s.now) }
+{
+    match scopes.type_in(number, s.owner.text.as_slice()) {
+        None => first,
+        Some(t) => judge_owner(first, scopes, t, s),
+    }
+}
+
+fn judge_states(
+    first: Option<Broken>,
+    scopes: &Scopes<'_>,
+    number: usize,
+    states: &[State],
+) -> Option<Broken>
+    ensures { result ≡ first_after first (flat_map (wrong_state_of scopes.now.trees.now (scope_at scopes.now.trees.now number)) states.now) }
+{
+    let mut first = first;
+    for s in states {
+        first = judge_state(first, scopes, number, s);
+    }
+    first
+}
+
+fn judge_declared<'a>(
+    first: Option<Broken>,
+    scopes: &Scopes<'a>,
+    number: usize,
+    d: Declared<'a>,
+) -> Option<Broken>
+    ensures { result ≡ first_after first (wrong_states scopes.now.trees.now (scope_at scopes.now.trees.now number) (declaration_of d.entry)) }
+{
+    match d {
+        Declared::States(s) => judge_states(first, scopes, number, &s.members),
+        _ => first,
+    }
+}
+
+/// The first broken rule, after the permissions of all states that are declared in the scope of this number.
+pub fn judge_permissions(
+    first: Option<Broken>,
+    scopes: &Scopes<'_>,
+    number: usize,
+) -> Option<Broken>
+    ensures { result ≡ first_after first (flat_map (wrong_states scopes.now.trees.now (scope_at scopes.now.trees.now number)) (declared_in scopes.now.trees.now (scope_at scopes.now.trees.now number))) }
+{
+    let mut first = first;
+    for d in scopes.declarations(number) {
+        first = judge_declared(first, scopes, number, *d);
+    }
+    first
 }

@@ -1,10 +1,9 @@
-//! `return` with a value where none is wanted, or without one where one is.
+//! Whether each way through statements ends in them; and `return` with a value where none is wanted, or without one where one is.
 ghost use Rattle.std.specs.Prelude.{◌≡◌, ◌∷◌, [], cond, flat_map};
-ghost use Rattle.slicc_plan.specs.Order.{first_of};
-ghost use Rattle.slicc_plan.specs.Returns.{if_returns, no_return, returns_in, wrong_ends, wrong_returns};
-ghost use Rattle.body_rules.specs.Arms.{arm_returns, return_at, wrong_among};
+ghost use Rattle.slicc_plan.specs.Prelude.{first_of, if_returns, no_return, returns_in, wrong_ends, wrong_returns, body_ends, ends, if_ends};
+ghost use Rattle.body_rules.specs.Prelude.{arm_returns, return_at, wrong_among, arm_ends};
+ghost use Rattle.std.specs.List.{list_all, list_any};
 
-use crate::ending::body_ends;
 use slicc_ast::tree::{Block, ElseIf, If, Span, Stmt};
 use slicc_plan::{Broken, Rule, earlier_of_two};
 
@@ -110,4 +109,62 @@ pub fn wrong_ends(answers: bool, place: Span, b: &Block) -> Option<Broken>
 {
     let own = told_if(answers && !body_ends(b), place);
     earlier_of_two(own, wrong_returns(answers, b))
+}
+
+#[cycle(endings)]
+#[tactic(auto, using(crate::proofs::EndRows::rules_of_ends))]
+fn ends(s: &Stmt) -> bool
+    ensures { result ≡ ends s.now }
+{
+    match s {
+        Stmt::Return(..) | Stmt::Error(..) => true,
+        Stmt::If(i) => if_ends(i),
+        Stmt::Peek { body, .. } | Stmt::Enqueue { body, .. } => statements_end(&body.statements),
+        _ => false,
+    }
+}
+
+#[cycle(endings)]
+#[tactic(auto, using(crate::proofs::EndRows::rules_of_ends))]
+fn statements_end(statements: &[Stmt]) -> bool
+    ensures { result ≡ list_any ends statements.now }
+{
+    for s in statements {
+        if ends(s) {
+            return true;
+        }
+    }
+    false
+}
+
+#[cycle(endings)]
+#[tactic(auto, using(crate::proofs::EndRows::rules_of_ends))]
+fn others_end(others: &[ElseIf]) -> bool
+    ensures { result ≡ list_all arm_ends others.now }
+{
+    for other in others {
+        if !statements_end(&other.then.statements) {
+            return false;
+        }
+    }
+    true
+}
+
+#[cycle(endings)]
+#[tactic(auto, using(crate::proofs::EndRows::rules_of_ends))]
+fn if_ends(i: &If) -> bool
+    ensures { result ≡ if_ends i.now }
+{
+    let arms = statements_end(&i.then.statements) && others_end(&i.others);
+    match &i.otherwise {
+        None => false,
+        Some(block) => arms && statements_end(&block.statements),
+    }
+}
+
+// Whether each way through a body ends in `return` or in `error`.
+fn body_ends(b: &Block) -> bool
+    ensures { result ≡ body_ends b.now }
+{
+    statements_end(&b.statements)
 }

@@ -1,14 +1,11 @@
 //! The ways through all bodies of a protocol.
-ghost use Rattle.std.specs.Prelude.{◌≡◌, false, flat_map};
-ghost use Rattle.slicc_plan.specs.Declarations.{function, wide_scopes};
-ghost use Rattle.slicc_plan.specs.Order.{first_after};
-ghost use Rattle.slicc_plan.specs.Returns.{missing_returns, wrong_returns};
-ghost use Rattle.declared_types.specs.Lent.{declaration_of};
-ghost use Rattle.declared_types.specs.Scopes.{scope_at};
-ghost use Rattle.body_rules.specs.Ways.{ways_in, ways_of};
+ghost use Rattle.std.specs.Prelude.{◌≡◌, false};
+ghost use Rattle.slicc_plan.specs.Prelude.{function, first_after, missing_returns, wrong_returns};
+ghost use Rattle.declared_types.specs.Prelude.{scope_at};
+ghost use Rattle.body_rules.specs.Ways.{ways_of};
 
 use crate::returning::{wrong_ends, wrong_returns};
-use declaration_rules::is_built_in;
+use declaration_rules::{DeclarationRule, first_in_scopes, is_built_in};
 use declared_types::{Declared, Scopes};
 use slicc_ast::tree::{Block, Function};
 use slicc_plan::{Broken, BuiltInType, earlier_of_two};
@@ -45,51 +42,30 @@ fn judge_function(
     }
 }
 
-fn judge_declaration(
-    first: Option<Broken>,
-    scopes: &Scopes<'_>,
-    number: usize,
-    d: Declared<'_>,
-) -> Option<Broken>
-    ensures { result ≡ first_after first (ways_of scopes.now.trees.now (scope_at scopes.now.trees.now number) (declaration_of d.entry)) }
-{
-    match d {
-        Declared::InPort(p) => judge_body(first, &p.body),
-        Declared::Action(a) => judge_body(first, &a.body),
-        Declared::Function(f) => judge_function(first, scopes, number, f),
-        Declared::Machine(_)
-        | Declared::Enumeration(_)
-        | Declared::Structure(_)
-        | Declared::States(_)
-        | Declared::Parameter(_)
-        | Declared::Object(_)
-        | Declared::OutPort(_) => first,
-    }
-}
+// Each way through a body ends as it has to.
+struct Ways;
 
-fn judge_scope(first: Option<Broken>, scopes: &Scopes<'_>, number: usize) -> Option<Broken>
-    ensures { result ≡ first_after first (ways_in scopes.now.trees.now (scope_at scopes.now.trees.now number)) }
-{
-    let mut first = first;
-    for d in scopes.declarations(number) {
-        first = judge_declaration(first, scopes, number, *d);
-    }
-    first
-}
+impl DeclarationRule for Ways {
+    ghost broken_of = { ways_of };
 
-fn judge_scopes(first: Option<Broken>, scopes: &Scopes<'_>) -> Option<Broken>
-    ensures { result ≡ first_after first (flat_map (ways_in scopes.now.trees.now) (wide_scopes scopes.now.trees.now)) }
-{
-    let mut first = first;
-    for number in 0..scopes.len() {
-        first = judge_scope(first, scopes, number);
+    fn judge<'a>(
+        first: Option<Broken>,
+        scopes: &Scopes<'a>,
+        number: usize,
+        d: Declared<'a>,
+    ) -> Option<Broken> {
+        match d {
+            Declared::InPort(p) => judge_body(first, &p.body),
+            Declared::Action(a) => judge_body(first, &a.body),
+            Declared::Function(f) => judge_function(first, scopes, number, f),
+            _ => first,
+        }
     }
-    first
 }
 
 /// The first broken rule, after the ways through the bodies of all machines.
 pub fn missing_returns(first: Option<Broken>, scopes: &Scopes<'_>) -> Option<Broken>
     ensures { result ≡ first_after first (missing_returns scopes.now.trees.now) }
 {
-    judge_scopes(first, scopes)
+    first_in_scopes::<Ways>(first, scopes)
 }

@@ -1,8 +1,8 @@
 -- What names stand for at a place of a body, as the definitions of a protocol's rules see it.
 use Rattle.std.specs.Prelude.{◌≡◌, map, reverse}
-use Rattle.slicc_plan.specs.Declarations.{within}
+use Rattle.slicc_plan.specs.Prelude.{within}
 use Rattle.slicc_plan.specs.Environment as plan
-use Rattle.declared_types.specs.Scopes.{scope_at}
+use Rattle.declared_types.specs.Prelude.{scope_at}
 use Rattle.body_types.specs.declared.environment.BodySort.{BodySort}
 use Rattle.body_types.specs.declared.environment.BodySort.TheVariants.{Port, Action, Function}
 use Rattle.body_types.specs.declared.environment.Bound.{Bound}

@@ -6,7 +6,7 @@ use Rattle.slicc_plan.specs.declared.broken.Broken.{Broken}
 use Rattle.slicc_plan.specs.Buffers.{listed}
 use Rattle.slicc_plan.specs.CallTypes as call
 use Rattle.slicc_plan.specs.Meanings as meaning
-use Rattle.slicc_plan.specs.Order.{first_of}
+use Rattle.slicc_plan.specs.Prelude.{first_of}
 use Rattle.body_types.specs.declared.typed.Typed.{Typed}
 use Rattle.body_types.specs.declared.typed.Given.{Given}
 use Rattle.body_types.specs.Views.{meaning_of, written_of}

@@ -2,3 +2,4 @@ pub mod Environments
 pub mod Found
 pub mod Lines
 pub mod Views
+pub mod Prelude

@@ -1,7 +1,7 @@
 -- The structures of the lines of a machine's tables, found once.
 use Rattle.std.specs.Prelude.{◌≡◌}
 use Rattle.std.specs.Option.{option_copied}
-use Rattle.slicc_plan.specs.Machines.{directory_structure, entry_structure, tbe_structure}
+use Rattle.slicc_plan.specs.Prelude.{directory_structure, entry_structure, tbe_structure}
 use Rattle.body_types.specs.declared.lines.Lines.{Lines}
 
 -- these are the structures of the machine

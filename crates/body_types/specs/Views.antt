@@ -6,7 +6,7 @@ use Rattle.slicc_plan.specs.CallTypes as call
 use Rattle.slicc_plan.specs.Meanings as meaning
 use Rattle.slicc_plan.specs.Types as types
 use Rattle.declared_types.specs.declared.lent.KnownType.{KnownType}
-use Rattle.declared_types.specs.Lent.{type_of}
+use Rattle.declared_types.specs.Prelude.{type_of}
 use Rattle.body_types.specs.declared.meaning.Meaning.{Meaning}
 use Rattle.body_types.specs.declared.meaning.Meaning.TheVariants.{Value, NoLine, BareLine, NewLine, Incoming, Outgoing, Table, InPort, OutPort, Nothing, Unknown}
 use Rattle.body_types.specs.declared.meaning.Wanted.{Wanted}

@@ -2,15 +2,10 @@
 ghost use Rattle.std.specs.Prelude.{◌≡◌, Some};
 ghost use Rattle.std.specs.List.{list_any};
 ghost use Rattle.std.specs.Option.{option_copied};
-ghost use Rattle.slicc_plan.specs.BuiltIn.{nature_of};
-ghost use Rattle.slicc_plan.specs.Buffers.{is_same_known, listed};
-ghost use Rattle.slicc_plan.specs.Declarations.{within};
-ghost use Rattle.slicc_plan.specs.FieldTypes.{may_be_field as may_be_field_of};
-ghost use Rattle.slicc_plan.specs.Meanings.{agree as agree_of, bare_line_fits as bare_line_fits_of, fits as fits_of, is_comparable as is_comparable_of, is_line as is_line_of_machine, is_number as is_number_nature, no_line_fits as no_line_fits_of, table_fits as table_fits_of, value_fits as value_fits_of, is_value as is_value_of};
-ghost use Rattle.slicc_plan.specs.Types.{is_built_in as is_built_in_of, nature_in, structured};
-ghost use Rattle.declared_types.specs.Lent.{type_of};
-ghost use Rattle.body_types.specs.Lines.{AreLines};
-ghost use Rattle.body_types.specs.Views.{meaning_of, type_if, wanted_of};
+ghost use Rattle.slicc_plan.specs.Prelude.{nature_of, is_same_known, within, may_be_field, agree, bare_line_fits, fits, is_comparable, is_line, is_number, no_line_fits, table_fits, value_fits, is_value, is_built_in, nature_in, structured};
+ghost use Rattle.slicc_plan.specs.Buffers.{listed};
+ghost use Rattle.declared_types.specs.Prelude.{type_of};
+ghost use Rattle.body_types.specs.Prelude.{AreLines, meaning_of, type_if, wanted_of};
 
 use crate::lines::Lines;
 use crate::meaning::{Meaning, Wanted};
@@ -32,7 +27,7 @@ pub fn has_line<'a>(m: &'a Machine, s: Option<&'a Structure>, t: KnownType<'a>) 
 /// Whether references to lines of the machine's tables may be of this type.
 pub fn is_line<'a>(lines: Lines<'a>, t: KnownType<'a>) -> bool
     requires { AreLines lines }
-    ensures { result ≡ is_line_of_machine lines.entry.machine.now (type_of t.entry) }
+    ensures { result ≡ is_line lines.entry.machine.now (type_of t.entry) }
 {
     has_line(lines.machine, lines.entry, t)
         || has_line(lines.machine, lines.directory, t)
@@ -41,7 +36,7 @@ pub fn is_line<'a>(lines: Lines<'a>, t: KnownType<'a>) -> bool
 
 /// Whether a type is a built-in one.
 pub fn is_built_in(b: BuiltInType, t: KnownType) -> bool
-    ensures { result ≡ is_built_in_of b (Some (type_of t.entry)) }
+    ensures { result ≡ is_built_in b (Some (type_of t.entry)) }
 {
     match t {
         KnownType::BuiltIn(c) => b == c,
@@ -51,7 +46,7 @@ pub fn is_built_in(b: BuiltInType, t: KnownType) -> bool
 
 // Whether the values of a type are numbers.
 fn has_numbers(t: KnownType) -> bool
-    ensures { result ≡ is_number_nature (nature_in (type_of t.entry)) }
+    ensures { result ≡ is_number (nature_in (type_of t.entry)) }
 {
     match t {
         KnownType::BuiltIn(BuiltInType::Int | BuiltInType::Cycles | BuiltInType::Tick) => true,
@@ -61,7 +56,7 @@ fn has_numbers(t: KnownType) -> bool
 
 // Whether fields may be of this built-in type.
 fn may_be_field(b: BuiltInType) -> bool
-    ensures { result ≡ may_be_field_of (nature_of b) }
+    ensures { result ≡ may_be_field (nature_of b) }
 {
     match b {
         BuiltInType::Request
@@ -79,7 +74,7 @@ fn may_be_field(b: BuiltInType) -> bool
 /// Whether values in a body may be of this type.
 pub fn is_value<'a>(lines: Lines<'a>, t: KnownType<'a>) -> bool
     requires { AreLines lines }
-    ensures { result ≡ is_value_of lines.entry.machine.now (type_of t.entry) }
+    ensures { result ≡ is_value lines.entry.machine.now (type_of t.entry) }
 {
     match t {
         KnownType::BuiltIn(b) => may_be_field(b),
@@ -90,7 +85,7 @@ pub fn is_value<'a>(lines: Lines<'a>, t: KnownType<'a>) -> bool
 
 /// Whether values of two types may stand for each other.
 pub fn agree(t: KnownType, u: KnownType) -> bool
-    ensures { result ≡ agree_of (type_of t.entry) (type_of u.entry) }
+    ensures { result ≡ agree (type_of t.entry) (type_of u.entry) }
 {
     if has_numbers(t) {
         has_numbers(u)
@@ -101,14 +96,14 @@ pub fn agree(t: KnownType, u: KnownType) -> bool
 
 fn is_comparable<'a>(lines: Lines<'a>, t: KnownType<'a>) -> bool
     requires { AreLines lines }
-    ensures { result ≡ is_comparable_of lines.entry.machine.now (type_of t.entry) }
+    ensures { result ≡ is_comparable lines.entry.machine.now (type_of t.entry) }
 {
     !is_built_in(BuiltInType::NetDest, t) && !is_line(lines, t)
 }
 
 // Whether a type, if there is one, agrees with this one.
 fn agrees_if(t: KnownType, u: Option<KnownType>) -> bool
-    ensures { result ≡ list_any (λ w. agree_of w (type_of t.entry)) (listed (type_if u.entry)) }
+    ensures { result ≡ list_any (λ w. agree w (type_of t.entry)) (listed (type_if u.entry)) }
 {
     match u {
         None => false,
@@ -119,7 +114,7 @@ fn agrees_if(t: KnownType, u: Option<KnownType>) -> bool
 // Whether references to lines may be of the type, if there is one.
 fn is_line_if<'a>(lines: Lines<'a>, t: Option<KnownType<'a>>) -> bool
     requires { AreLines lines }
-    ensures { result ≡ list_any (is_line_of_machine lines.entry.machine.now) (listed (type_if t.entry)) }
+    ensures { result ≡ list_any (is_line lines.entry.machine.now) (listed (type_if t.entry)) }
 {
     match t {
         None => false,
@@ -129,7 +124,7 @@ fn is_line_if<'a>(lines: Lines<'a>, t: Option<KnownType<'a>>) -> bool
 
 fn value_fits<'a>(lines: Lines<'a>, wanted: Wanted<'a>, t: KnownType<'a>) -> bool
     requires { AreLines lines }
-    ensures { result ≡ value_fits_of lines.entry.machine.now (wanted_of wanted.entry) (type_of t.entry) }
+    ensures { result ≡ value_fits lines.entry.machine.now (wanted_of wanted.entry) (type_of t.entry) }
 {
     match wanted {
         Wanted::Anything | Wanted::AnyValue => true,
@@ -145,7 +140,7 @@ fn value_fits<'a>(lines: Lines<'a>, wanted: Wanted<'a>, t: KnownType<'a>) -> boo
 
 fn no_line_fits<'a>(lines: Lines<'a>, wanted: Wanted<'a>) -> bool
     requires { AreLines lines }
-    ensures { result ≡ no_line_fits_of lines.entry.machine.now (wanted_of wanted.entry) }
+    ensures { result ≡ no_line_fits lines.entry.machine.now (wanted_of wanted.entry) }
 {
     match wanted {
         Wanted::Anything
@@ -159,7 +154,7 @@ fn no_line_fits<'a>(lines: Lines<'a>, wanted: Wanted<'a>) -> bool
 }
 
 fn bare_line_fits(wanted: Wanted) -> bool
-    ensures { result ≡ bare_line_fits_of (wanted_of wanted.entry) }
+    ensures { result ≡ bare_line_fits (wanted_of wanted.entry) }
 {
     match wanted {
         Wanted::Anything | Wanted::AnyValue | Wanted::AnyLine => true,
@@ -168,7 +163,7 @@ fn bare_line_fits(wanted: Wanted) -> bool
 }
 
 fn table_fits(wanted: Wanted, b: BuiltInType) -> bool
-    ensures { result ≡ table_fits_of (wanted_of wanted.entry) b }
+    ensures { result ≡ table_fits (wanted_of wanted.entry) b }
 {
     match wanted {
         Wanted::Anything => true,
@@ -180,7 +175,7 @@ fn table_fits(wanted: Wanted, b: BuiltInType) -> bool
 /// Whether this may stand where that is wanted.
 pub fn fits<'a>(lines: Lines<'a>, wanted: Wanted<'a>, meaning: Meaning<'a>) -> bool
     requires { AreLines lines }
-    ensures { result ≡ fits_of lines.entry.machine.now (wanted_of wanted.entry) (meaning_of meaning.entry) }
+    ensures { result ≡ fits lines.entry.machine.now (wanted_of wanted.entry) (meaning_of meaning.entry) }
 {
     match meaning {
         Meaning::Value(t) => value_fits(lines, wanted, t),

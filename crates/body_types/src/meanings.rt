@@ -1,13 +1,10 @@
 //! What declared types mean in a body, and what is told where something unwanted stands.
 ghost use Rattle.std.specs.Prelude.{◌≡◌};
 ghost use Rattle.std.specs.Option.{option_copied};
-ghost use Rattle.slicc_plan.specs.BuiltIn.{is_table_nature};
-ghost use Rattle.slicc_plan.specs.Meanings.{answer_of_type as answer_of, incoming_of_type as incoming_of, is_answer_type as is_answer, is_message as is_message_of, is_object_type as is_object, like_it as like_it_of, line_of_structure as line_of, message_type as message_of, object_of_type as object_of, outgoing_of_type as outgoing_of, told as told_of, unfit as unfit_of, unless as unless_of, value_of_type as value_of};
-ghost use Rattle.slicc_plan.specs.Order.{first_of};
-ghost use Rattle.slicc_plan.specs.Types.{nature_in};
-ghost use Rattle.declared_types.specs.Lent.{type_of};
-ghost use Rattle.body_types.specs.Lines.{AreLines};
-ghost use Rattle.body_types.specs.Views.{meaning_of, type_if, wanted_of};
+ghost use Rattle.slicc_plan.specs.Prelude.{is_table_nature, answer_of_type, incoming_of_type, is_answer_type, is_message, is_object_type, like_it, line_of_structure, object_of_type, outgoing_of_type, told, unfit, unless, first_of, nature_in};
+ghost use Rattle.slicc_plan.specs.Meanings.{message_type, value_of_type};
+ghost use Rattle.declared_types.specs.Prelude.{type_of};
+ghost use Rattle.body_types.specs.Prelude.{AreLines, meaning_of, type_if, wanted_of};
 
 use crate::fitting::{fits, is_built_in, is_value};
 use crate::lines::Lines;
@@ -18,7 +15,7 @@ use slicc_plan::{Broken, BuiltInType, Rule};
 
 /// Whether messages may be of this type.
 pub fn is_message(t: KnownType) -> bool
-    ensures { result ≡ is_message_of (type_of t.entry) }
+    ensures { result ≡ is_message (type_of t.entry) }
 {
     match t {
         KnownType::BuiltIn(b) => matches!(b, BuiltInType::Request | BuiltInType::AbstractEntry),
@@ -39,7 +36,7 @@ fn has_tables(t: KnownType) -> bool
 /// Whether parameters and objects may be of this type.
 pub fn is_object_type<'a>(lines: Lines<'a>, t: KnownType<'a>) -> bool
     requires { AreLines lines }
-    ensures { result ≡ is_object lines.entry.machine.now (type_of t.entry) }
+    ensures { result ≡ is_object_type lines.entry.machine.now (type_of t.entry) }
 {
     has_tables(t) || is_value(lines, t)
 }
@@ -47,7 +44,7 @@ pub fn is_object_type<'a>(lines: Lines<'a>, t: KnownType<'a>) -> bool
 /// Whether functions may answer this type.
 pub fn is_answer_type<'a>(lines: Lines<'a>, t: KnownType<'a>) -> bool
     requires { AreLines lines }
-    ensures { result ≡ is_answer lines.entry.machine.now (type_of t.entry) }
+    ensures { result ≡ is_answer_type lines.entry.machine.now (type_of t.entry) }
 {
     is_built_in(BuiltInType::Void, t) || is_value(lines, t)
 }
@@ -55,7 +52,7 @@ pub fn is_answer_type<'a>(lines: Lines<'a>, t: KnownType<'a>) -> bool
 /// What a local, a formal or a field of this type stands for, where the type is known.
 pub fn value_of_type<'a>(lines: Lines<'a>, t: Option<KnownType<'a>>) -> Meaning<'a>
     requires { AreLines lines }
-    ensures { meaning_of result ≡ value_of lines.entry.machine.now (type_if t.entry) }
+    ensures { meaning_of result ≡ value_of_type lines.entry.machine.now (type_if t.entry) }
 {
     match t {
         Some(t) if is_value(lines, t) => Meaning::Value(t),
@@ -66,7 +63,7 @@ pub fn value_of_type<'a>(lines: Lines<'a>, t: Option<KnownType<'a>>) -> Meaning<
 /// What a parameter or an object of this type stands for, where the type is known.
 pub fn object_of_type<'a>(lines: Lines<'a>, t: Option<KnownType<'a>>) -> Meaning<'a>
     requires { AreLines lines }
-    ensures { meaning_of result ≡ object_of lines.entry.machine.now (type_if t.entry) }
+    ensures { meaning_of result ≡ object_of_type lines.entry.machine.now (type_if t.entry) }
 {
     match t {
         Some(KnownType::BuiltIn(b)) if is_table(b) => Meaning::Table(b),
@@ -77,7 +74,7 @@ pub fn object_of_type<'a>(lines: Lines<'a>, t: Option<KnownType<'a>>) -> Meaning
 /// What a call of a function that answers this type stands for, where the type is known.
 pub fn answer_of_type<'a>(lines: Lines<'a>, t: Option<KnownType<'a>>) -> Meaning<'a>
     requires { AreLines lines }
-    ensures { meaning_of result ≡ answer_of lines.entry.machine.now (type_if t.entry) }
+    ensures { meaning_of result ≡ answer_of_type lines.entry.machine.now (type_if t.entry) }
 {
     match t {
         Some(KnownType::BuiltIn(BuiltInType::Void)) => Meaning::Nothing,
@@ -87,7 +84,7 @@ pub fn answer_of_type<'a>(lines: Lines<'a>, t: Option<KnownType<'a>>) -> Meaning
 
 /// The type, where it is known and messages may be of it.
 pub fn message_type<'a>(t: Option<KnownType<'a>>) -> Option<KnownType<'a>>
-    ensures { type_if result ≡ message_of (type_if t.entry) }
+    ensures { type_if result ≡ message_type (type_if t.entry) }
 {
     match t {
         Some(t) if is_message(t) => Some(t),
@@ -97,7 +94,7 @@ pub fn message_type<'a>(t: Option<KnownType<'a>>) -> Option<KnownType<'a>>
 
 /// A message of this type that is looked at, where the type is known.
 pub fn incoming_of_type<'a>(t: Option<KnownType<'a>>) -> Meaning<'a>
-    ensures { meaning_of result ≡ incoming_of (type_if t.entry) }
+    ensures { meaning_of result ≡ incoming_of_type (type_if t.entry) }
 {
     match t {
         None => Meaning::Unknown,
@@ -107,7 +104,7 @@ pub fn incoming_of_type<'a>(t: Option<KnownType<'a>>) -> Meaning<'a>
 
 /// A message of this type that is being made, where the type is known.
 pub fn outgoing_of_type<'a>(t: Option<KnownType<'a>>) -> Meaning<'a>
-    ensures { meaning_of result ≡ outgoing_of (type_if t.entry) }
+    ensures { meaning_of result ≡ outgoing_of_type (type_if t.entry) }
 {
     match t {
         None => Meaning::Unknown,
@@ -117,7 +114,7 @@ pub fn outgoing_of_type<'a>(t: Option<KnownType<'a>>) -> Meaning<'a>
 
 /// A reference to a line of this structure of the machine, where it has it.
 pub fn line_of_structure<'a>(lines: Lines<'a>, s: Option<&'a Structure>) -> Meaning<'a>
-    ensures { meaning_of result ≡ line_of lines.entry.machine.now (option_copied s.entry) }
+    ensures { meaning_of result ≡ line_of_structure lines.entry.machine.now (option_copied s.entry) }
 {
     match s {
         None => Meaning::BareLine,
@@ -127,7 +124,7 @@ pub fn line_of_structure<'a>(lines: Lines<'a>, s: Option<&'a Structure>) -> Mean
 
 /// What has to be there beside this, or be assigned to it.
 pub fn like_it<'a>(meaning: Meaning<'a>) -> Wanted<'a>
-    ensures { wanted_of result ≡ like_it_of (meaning_of meaning.entry) }
+    ensures { wanted_of result ≡ like_it (meaning_of meaning.entry) }
 {
     match meaning {
         Meaning::Value(t) => Wanted::OneOf(Some(t), None),
@@ -137,7 +134,7 @@ pub fn like_it<'a>(meaning: Meaning<'a>) -> Wanted<'a>
 
 /// The breach of a rule at a place.
 pub fn told(rule: Rule, place: Span) -> Broken
-    ensures { result ≡ told_of rule place }
+    ensures { result ≡ told rule place }
 {
     Broken {
         rule,
@@ -149,7 +146,7 @@ pub fn told(rule: Rule, place: Span) -> Broken
 
 /// The breach of a rule at a place, unless something is right.
 pub fn unless(is_right: bool, rule: Rule, place: Span) -> Option<Broken>
-    ensures { result ≡ first_of (unless_of is_right rule place) }
+    ensures { result ≡ first_of (unless is_right rule place) }
 {
     if is_right {
         None
@@ -166,7 +163,7 @@ pub fn unfit<'a>(
     meaning: Meaning<'a>,
 ) -> Option<Broken>
     requires { AreLines lines }
-    ensures { result ≡ first_of (unfit_of lines.entry.machine.now (wanted_of wanted.entry) place (meaning_of meaning.entry)) }
+    ensures { result ≡ first_of (unfit lines.entry.machine.now (wanted_of wanted.entry) place (meaning_of meaning.entry)) }
 {
     unless(fits(lines, wanted, meaning), Rule::WrongType, place)
 }

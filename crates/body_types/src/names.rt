@@ -1,15 +1,10 @@
 //! What the names in a body stand for.
 ghost use Rattle.std.specs.Prelude.{◌≡◌, find, map, reverse};
 ghost use Rattle.std.specs.Option.{option_map};
-ghost use Rattle.slicc_plan.specs.Declarations.{within};
-ghost use Rattle.slicc_plan.specs.Types.{type_in};
-ghost use Rattle.slicc_plan.specs.Environment.{bound_as as bound_as_of, declared_value as declared_value_of, is_allowed as is_allowed_of, known_in_bodies as known_in_bodies_of, fixed as fixed_of, names_everywhere as names_everywhere_of, no_type as no_type_of, type_named as type_named_of, value_named as value_named_of, value_outside as value_outside_of, meaning_of_found, wrong_type_name as wrong_type_name_of, wrong_value_name as wrong_value_name_of, meaning_named as meaning_named_of, wrong_meaning as wrong_meaning_of};
-ghost use Rattle.slicc_plan.specs.Meanings.{message_type as message_of, object_of_type as object_of};
-ghost use Rattle.slicc_plan.specs.Order.{first_of};
-ghost use Rattle.declared_types.specs.Lent.{declaration_of, type_of};
-ghost use Rattle.body_types.specs.Environments.{IsEnvironment, bound_of, environment_of};
-ghost use Rattle.body_types.specs.Lines.{AreLines};
-ghost use Rattle.body_types.specs.Views.{meaning_of, type_if, wanted_of};
+ghost use Rattle.slicc_plan.specs.Prelude.{within, type_in, bound_as, declared_value, is_allowed, known_in_bodies, fixed, names_everywhere, no_type, type_named, value_named, value_outside, meaning_of_found, wrong_type_name, wrong_value_name, meaning_named, wrong_meaning, object_of_type, first_of};
+ghost use Rattle.slicc_plan.specs.Meanings.{message_type};
+ghost use Rattle.declared_types.specs.Prelude.{declaration_of, type_of};
+ghost use Rattle.body_types.specs.Prelude.{IsEnvironment, bound_of, environment_of, AreLines, meaning_of, type_if, wanted_of};
 
 use crate::environment::{Bound, Environment};
 use crate::fitting::is_built_in;
@@ -22,7 +17,7 @@ use slicc_plan::{Broken, BuiltInType, Rule};
 /// The innermost of the names of a body that is written so, the outermost being first.
 #[tactic(auto, using(crate::proofs::Innermost::innermost))]
 pub fn bound_as<'a>(bound: &[Bound<'a>], name: &[u8]) -> Option<Bound<'a>>
-    ensures { option_map bound_of result ≡ bound_as_of name.now (reverse (map bound_of bound.now)) }
+    ensures { option_map bound_of result ≡ bound_as name.now (reverse (map bound_of bound.now)) }
 {
     let mut left = bound.len();
     while left > 0 {
@@ -37,7 +32,7 @@ pub fn bound_as<'a>(bound: &[Bound<'a>], name: &[u8]) -> Option<Bound<'a>>
 
 // A name of a value that isn't a local's.
 fn fixed<'a>(name: &'a [u8], meaning: Meaning<'a>) -> Bound<'a>
-    ensures { bound_of result ≡ fixed_of name.entry.now (meaning_of meaning.entry) }
+    ensures { bound_of result ≡ fixed name.entry.now (meaning_of meaning.entry) }
 {
     Bound {
         name,
@@ -48,7 +43,7 @@ fn fixed<'a>(name: &'a [u8], meaning: Meaning<'a>) -> Bound<'a>
 
 // What the names stand for that each body has.
 fn name_everywhere<'a>(name: &[u8]) -> Option<Bound<'a>>
-    ensures { option_map bound_of result ≡ bound_as_of name.now names_everywhere_of }
+    ensures { option_map bound_of result ≡ bound_as name.now names_everywhere }
 {
     if b"machineID".as_slice() == name {
         return Some(fixed(
@@ -76,7 +71,7 @@ fn type_of_name<'a>(env: Environment<'_, 'a>, name: &[u8]) -> Option<KnownType<'
 // The value that a declaration with this name and type declares.
 fn object_named<'a>(env: Environment<'_, 'a>, name: &'a Name, kind: &TypeName) -> Bound<'a>
     requires { IsEnvironment env }
-    ensures { bound_of result ≡ fixed_of name.entry.now.text (object_of env.entry.lines.machine.now (type_in env.entry.scopes.now.trees.now (within env.entry.lines.machine.now) kind.now.text)) }
+    ensures { bound_of result ≡ fixed name.entry.now.text (object_of_type env.entry.lines.machine.now (type_in env.entry.scopes.now.trees.now (within env.entry.lines.machine.now) kind.now.text)) }
 {
     let t = type_of_name(env, kind.text.as_slice());
     fixed(name.text.as_slice(), object_of_type(env.lines, t))
@@ -85,7 +80,7 @@ fn object_named<'a>(env: Environment<'_, 'a>, name: &'a Name, kind: &TypeName) -
 // The type of a port's messages.
 fn message_named<'a>(env: Environment<'_, 'a>, message: &TypeName) -> Option<KnownType<'a>>
     requires { IsEnvironment env }
-    ensures { type_if result ≡ message_of (type_in env.entry.scopes.now.trees.now (within env.entry.lines.machine.now) message.now.text) }
+    ensures { type_if result ≡ message_type (type_in env.entry.scopes.now.trees.now (within env.entry.lines.machine.now) message.now.text) }
 {
     message_type(type_of_name(env, message.text.as_slice()))
 }
@@ -93,7 +88,7 @@ fn message_named<'a>(env: Environment<'_, 'a>, message: &TypeName) -> Option<Kno
 // The value that a declaration of the machine declares.
 fn declared_value<'a>(env: Environment<'_, 'a>, d: Declared<'a>) -> Option<Bound<'a>>
     requires { IsEnvironment env }
-    ensures { option_map bound_of result ≡ declared_value_of env.entry.scopes.now.trees.now env.entry.lines.machine.now (declaration_of d.entry) }
+    ensures { option_map bound_of result ≡ declared_value env.entry.scopes.now.trees.now env.entry.lines.machine.now (declaration_of d.entry) }
 {
     match d {
         Declared::Parameter(p) => Some(object_named(env, &p.name, &p.kind)),
@@ -113,7 +108,7 @@ fn declared_value<'a>(env: Environment<'_, 'a>, d: Declared<'a>) -> Option<Bound
 /// The value that a name stands for, where it stands for one.
 pub fn value_named<'a>(env: Environment<'_, 'a>, name: &[u8]) -> Option<Bound<'a>>
     requires { IsEnvironment env }
-    ensures { option_map bound_of result ≡ value_named_of (environment_of env.entry) name.now }
+    ensures { option_map bound_of result ≡ value_named (environment_of env.entry) name.now }
 {
     match bound_as(env.bound, name) {
         Some(b) => Some(b),
@@ -127,7 +122,7 @@ pub fn value_named<'a>(env: Environment<'_, 'a>, name: &[u8]) -> Option<Bound<'a
 /// What a name stands for, where it stands for a value, a port or a table.
 pub fn meaning_named<'a>(env: Environment<'_, 'a>, name: &[u8]) -> Option<Meaning<'a>>
     requires { IsEnvironment env }
-    ensures { option_map meaning_of result ≡ meaning_named_of (environment_of env.entry) name.now }
+    ensures { option_map meaning_of result ≡ meaning_named (environment_of env.entry) name.now }
 {
     match value_named(env, name) {
         None => None,
@@ -142,7 +137,7 @@ pub fn wrong_value_name<'a>(
     name: &Name,
 ) -> Option<Broken>
     requires { IsEnvironment env }
-    ensures { result ≡ first_of (wrong_value_name_of (environment_of env.entry) (wanted_of wanted.entry) name.now) }
+    ensures { result ≡ first_of (wrong_value_name (environment_of env.entry) (wanted_of wanted.entry) name.now) }
 {
     match meaning_named(env, name.text.as_slice()) {
         None => Some(told(Rule::NotThere, name.span)),
@@ -151,7 +146,7 @@ pub fn wrong_value_name<'a>(
 }
 
 fn known_in_bodies<'a>(t: Option<KnownType<'a>>) -> Option<KnownType<'a>>
-    ensures { type_if result ≡ known_in_bodies_of (type_if t.entry) }
+    ensures { type_if result ≡ known_in_bodies (type_if t.entry) }
 {
     match t {
         Some(t) if !is_built_in(BuiltInType::AbstractEntry, t) => Some(t),
@@ -162,7 +157,7 @@ fn known_in_bodies<'a>(t: Option<KnownType<'a>>) -> Option<KnownType<'a>>
 /// The type that a name stands for, where it stands for one.
 pub fn type_named<'a>(env: Environment<'_, 'a>, name: &[u8]) -> Option<KnownType<'a>>
     requires { IsEnvironment env }
-    ensures { type_if result ≡ type_named_of (environment_of env.entry) name.now }
+    ensures { type_if result ≡ type_named (environment_of env.entry) name.now }
 {
     match value_named(env, name) {
         Some(_) => None,
@@ -173,7 +168,7 @@ pub fn type_named<'a>(env: Environment<'_, 'a>, name: &[u8]) -> Option<KnownType
 /// What is told of a name where a type's is wanted.
 pub fn wrong_type_name(env: Environment, name: &[u8], place: Span) -> Option<Broken>
     requires { IsEnvironment env }
-    ensures { result ≡ first_of (wrong_type_name_of (environment_of env.entry) name.now place) }
+    ensures { result ≡ first_of (wrong_type_name (environment_of env.entry) name.now place) }
 {
     match value_named(env, name) {
         Some(_) => Some(told(Rule::WrongType, place)),

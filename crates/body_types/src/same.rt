@@ -1,9 +1,8 @@
 //! Whether two types are one.
 ghost use Rattle.std.specs.Prelude.{◌≡◌, ◌&&◌};
 ghost use Rattle.std.specs.Str.{bytes_eq};
-ghost use Rattle.slicc_plan.specs.BuiltIn.{is_same_type};
-ghost use Rattle.slicc_plan.specs.Buffers.{is_same_known, is_same_scope};
-ghost use Rattle.declared_types.specs.Lent.{scope_of, type_of};
+ghost use Rattle.slicc_plan.specs.Prelude.{is_same_type, is_same_known, is_same_scope};
+ghost use Rattle.declared_types.specs.Prelude.{scope_of, type_of};
 
 use declared_types::{KnownType, Scope};
 use slicc_ast::tree::Name;

@@ -11,21 +11,16 @@ use Rattle.slicc_ast.specs.declared.tree.expression.Expr.TheViews as views
 use Rattle.slicc_ast.proofs.Boxes.{Not_is, Negate_is, IsValid_is, IsInvalid_is}
 use Rattle.ruby_value.specs.declared.value.Value.{Value}
 use Rattle.ctl_face.specs.declared.trouble.Trouble.{Trouble}
-use Rattle.ctl_face.specs.LocalView.{LocalView}
-use Rattle.acts.specs.Acting.{Acting, ends, given, ◌>>=◌}
-use Rattle.acts.specs.DoesAs.{DoesAs, itself}
+use Rattle.ctl_face.specs.Prelude.{LocalView}
+use Rattle.acts.specs.Prelude.{Acting, ends, given, ◌>>=◌, DoesAs, itself}
 use Rattle.acts.proofs.Walk.{does_ends_as, then_does, then_stops}
 use Rattle.body_meaning.specs.declared.frame.Frame.{Frame}
 use Rattle.body_meaning.specs.declared.thing.Thing.{Thing}
 use Rattle.body_meaning.specs.declared.thing.Thing.TheVariants as thing
-use Rattle.body_meaning.specs.Reading.{Reading}
-use Rattle.body_meaning.specs.Calls.{Calls, method_call}
-use Rattle.body_meaning.specs.Each.{each}
-use Rattle.body_meaning.specs.Expressions.{negation_of, operand_step, suffixed, value, value_step, values_of, with_value}
-use Rattle.body_meaning.specs.Things.{value_in}
-use Rattle.body_walk.specs.declared.operators.Unary.{Unary}
-use Rattle.body_walk.specs.declared.operators.Unary.TheVariants.{Not, Negate, IsValid, IsInvalid}
-use Rattle.body_walk.specs.Parts.{called, leaf, of_operand, operation, thing_made, unary_of}
+use Rattle.body_meaning.specs.Prelude.{Reading, Calls, method_call, each, negation_of, operand_step, suffixed, value, value_step, values_of, with_value, value_in}
+use Rattle.body_walk.specs.declared.places.Unary.{Unary}
+use Rattle.body_walk.specs.declared.places.Unary.TheVariants.{Not, Negate, IsValid, IsInvalid}
+use Rattle.body_walk.specs.Prelude.{called, leaf, of_operand, operation, thing_made, unary_of}
 use Rattle.body_walk.proofs.Forms.{suffixed_of_Method, value_of_Call, value_of_Cast, value_of_Group, value_of_IsInvalid, value_of_IsValid, value_of_Negate, value_of_Not, value_of_Operation, value_of_Postfix}
 
 -- Something, and then what comes of it.

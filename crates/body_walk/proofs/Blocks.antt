@@ -1,7 +1,7 @@
 -- The names of blocks that are left, one at a time.
 use Rattle.std.proofs.Common.{◌≡◌, ◌<◌, ◌≤◌, ◌-◌, ℕ, suc, List, [], ◌∷◌, drop, length, remove, sym, ap, arith}
 use Rattle.body_meaning.specs.declared.frame.Bound.{Bound}
-use Rattle.body_meaning.specs.Frames.{outermost}
+use Rattle.body_meaning.specs.Prelude.{outermost}
 
 pub outermost_more : (n : ℕ) (names : List Bound) → n < length names → outermost n (remove names 0) ≡ outermost n names
 unfolding outermost

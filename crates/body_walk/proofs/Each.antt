@@ -2,11 +2,10 @@
 use Rattle.std.proofs.Common.{◌≡◌, ◌<◌, ◌≤◌, ◌+◌, ℕ, Result, Ok, Err, List, ◌∷◌, drop, get_or, length, refl, sym, subst}
 use Rattle.std.proofs.lemmas.List.{drop_all, drop_more}
 use Rattle.ctl_face.specs.declared.trouble.Trouble.{Trouble}
-use Rattle.ctl_face.specs.LocalView.{LocalView}
-use Rattle.acts.specs.Acting.{Acting}
-use Rattle.acts.specs.DoesAs.{DoesAs, itself}
+use Rattle.ctl_face.specs.Prelude.{LocalView}
+use Rattle.acts.specs.Prelude.{Acting, DoesAs, itself}
 use Rattle.acts.proofs.Walk.{does_ends_as, then_does, then_stops}
-use Rattle.body_meaning.specs.Each.{each}
+use Rattle.body_meaning.specs.Prelude.{each}
 
 -- what the first does from one local on, the second does from another one
 abbrev pub Leads : {A : Type 0} → Acting A → LocalView → Acting A → LocalView → Type 0

@@ -3,10 +3,9 @@ use Rattle.std.proofs.Common.{◌≡◌, Option, None, Some, Result, Ok, Err, re
 use Rattle.ruby_value.specs.declared.fault.Fault.{Fault}
 use Rattle.ctl_face.specs.declared.trouble.Trouble.{Trouble}
 use Rattle.ctl_face.specs.declared.trouble.Trouble.TheVariants as trouble
-use Rattle.ctl_face.specs.LocalView.{LocalView}
+use Rattle.ctl_face.specs.Prelude.{LocalView}
 use Rattle.acts.specs.declared.body_fault.BodyFault.{BodyFault}
-use Rattle.acts.specs.Acting.{fault_of, found, given}
-use Rattle.acts.specs.DoesAs.{DoesAs}
+use Rattle.acts.specs.Prelude.{fault_of, found, given, DoesAs}
 use Rattle.acts.proofs.Walk.{does_ends_as, does_stops}
 
 module _ {A R : Type 0} (means : R → A) where

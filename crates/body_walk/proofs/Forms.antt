@@ -13,16 +13,11 @@ use Rattle.slicc_ast.specs.declared.tree.expression.Expr.TheViews as views
 use Rattle.slicc_ast.specs.declared.tree.expression.Expr.TheViews.{the_lemmas}
 use Rattle.slicc_ast.proofs.Boxes.{Operation_is, Postfix_is, Not_is, Negate_is, IsValid_is, IsInvalid_is, Cast_is, Group_is}
 use Rattle.ruby_value.specs.declared.value.Value.{Value}
-use Rattle.acts.specs.Acting.{Acting, ends, ◌>>=◌}
+use Rattle.acts.specs.Prelude.{Acting, ends, ◌>>=◌}
 use Rattle.body_meaning.specs.declared.frame.Frame.{Frame}
 use Rattle.body_meaning.specs.declared.thing.Thing.{Thing}
 use Rattle.body_meaning.specs.declared.thing.Thing.TheVariants as thing
-use Rattle.body_meaning.specs.Reading.{Reading}
-use Rattle.body_meaning.specs.Calls.{Calls, method_call, named_call}
-use Rattle.body_meaning.specs.Each.{each}
-use Rattle.body_meaning.specs.Expressions.{names_line, names_nothing, negation_of, not_so, operand_step, suffixed, value, values_of}
-use Rattle.body_meaning.specs.Places.{name_in, place_behind, place_of}
-use Rattle.body_meaning.specs.Things.{value_in}
+use Rattle.body_meaning.specs.Prelude.{Reading, Calls, method_call, named_call, each, names_line, names_nothing, negation_of, not_so, operand_step, suffixed, value, values_of, name_in, place_behind, place_of, value_in}
 use Rattle.body_walk.proofs.Rows.{operands_of_row, suffixes_of_row, values_of_row}
 
 operands_held : (others : List Operand) → items-the_row-Operand _ (block.hidden-the_row-Operand-1 others) ≡ others

@@ -5,18 +5,15 @@ use Rattle.slicc_ast.specs.declared.tree.name.Name.{Name}
 use Rattle.slicc_ast.specs.declared.tree.expression.Expr.{Expr, Variable, Postfix, Group}
 use Rattle.slicc_ast.specs.declared.tree.expression.Suffix.{Suffix, Field, Method', Index}
 use Rattle.slicc_ast.specs.declared.tree.expression.Expr.TheViews.{roll-Expr, roll-out-Expr, outs-Postfix', rolls-Postfix}
-use Rattle.slicc_ast.specs.Boxes.{Operation', Postfix', Not', Negate', IsValid', IsInvalid', Cast', Group'}
+use Rattle.slicc_ast.specs.Prelude.{Operation', Postfix', Not', Negate', IsValid', IsInvalid', Cast', Group'}
 use Rattle.slicc_ast.proofs.Boxes.{Group_is}
 use Rattle.ctl_face.specs.declared.trouble.Trouble.{Trouble}
-use Rattle.ctl_face.specs.LocalView.{LocalView}
+use Rattle.ctl_face.specs.Prelude.{LocalView}
 use Rattle.acts.specs.declared.body_fault.BodyFault.TheVariants as own
-use Rattle.acts.specs.Acting.{Acting, stops}
-use Rattle.acts.specs.DoesAs.{DoesAs, itself}
+use Rattle.acts.specs.Prelude.{Acting, stops, DoesAs, itself}
 use Rattle.body_meaning.specs.declared.frame.Frame.{Frame}
-use Rattle.body_meaning.specs.declared.place.Place.{Place}
-use Rattle.body_meaning.specs.Reading.{Reading}
-use Rattle.body_meaning.specs.Calls.{Calls}
-use Rattle.body_meaning.specs.Places.{place_behind, place_last, place_of}
+use Rattle.body_meaning.specs.declared.frame.Place.{Place}
+use Rattle.body_meaning.specs.Prelude.{Reading, Calls, place_behind, place_last, place_of}
 use Rattle.body_walk.proofs.Forms.{place_of_Group, place_of_Postfix}
 
 module _ (s : Reading) (calls : Calls) (frame : Frame) where

@@ -3,13 +3,10 @@ use mathlib.Core.Path.{fun_ext}
 use Rattle.std.proofs.Common.{◌≡◌, List, refl, ap}
 use Rattle.slicc_ast.specs.declared.tree.expression.Expr.{Row_of-Expr, end_of-Expr, more_of-Expr, items-the_row-Expr, Row_of-Operand, end_of-Operand, more_of-Operand, items-the_row-Operand, Row_of-Suffix, end_of-Suffix, more_of-Suffix, items-the_row-Suffix}
 use Rattle.ruby_value.specs.declared.value.Value.{Value}
-use Rattle.acts.specs.Acting.{Acting, ◌>>=◌}
+use Rattle.acts.specs.Prelude.{Acting, ◌>>=◌}
 use Rattle.body_meaning.specs.declared.frame.Frame.{Frame}
 use Rattle.body_meaning.specs.declared.thing.Thing.{Thing}
-use Rattle.body_meaning.specs.Reading.{Reading}
-use Rattle.body_meaning.specs.Calls.{Calls}
-use Rattle.body_meaning.specs.Each.{each}
-use Rattle.body_meaning.specs.Expressions.{operand_step, operands, operated, suffixed, suffixed_all, value, value_step, values, with_value}
+use Rattle.body_meaning.specs.Prelude.{Reading, Calls, each, operand_step, operands, operated, suffixed, suffixed_all, value, value_step, values, with_value}
 
 module _ (s : Reading) (calls : Calls) (frame : Frame) where
   pub operands_of_row : (left : Value) (n : _) (row : Row_of-Operand n) → operands s calls frame left row ≡ each (operand_step s calls frame) left (items-the_row-Operand n row)

@@ -4,10 +4,10 @@ use Rattle.std.specs.Fn.{Shared}
 use denote.Ref.{MutBor}
 use Rattle.ruby_value.specs.declared.value.Value.{Value}
 use Rattle.ctl_face.specs.declared.trouble.Trouble.{Trouble}
-use Rattle.ctl_face.specs.LocalView.{LocalView}
-use Rattle.acts.specs.DoesAs.{DoesAs, itself}
+use Rattle.ctl_face.specs.Prelude.{LocalView}
+use Rattle.acts.specs.Prelude.{DoesAs, itself}
 use Rattle.body_meaning.specs.declared.thing.Thing.{Thing}
-use Rattle.body_meaning.specs.Calls.{Calls}
+use Rattle.body_meaning.specs.Prelude.{Calls}
 
 unfoldable pub CallsDo : {T F : Type 0} → (T → LocalView)
     → Shared F (ℕ × (List Value × (MutBor T × Unit {0}))) (Result Thing Trouble × (MutBor T × Unit {0})) → F → Calls → Type 0

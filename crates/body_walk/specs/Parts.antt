@@ -3,24 +3,18 @@
 use Rattle.std.specs.Prelude.{ℕ, true, false, not, Result, Ok, List, is_none, is_some}
 use Rattle.slicc_ast.specs.declared.tree.expression.Expr.{Expr, Number, True, False, Nothing, Variable, Member}
 use Rattle.slicc_ast.specs.declared.tree.expression.Operand.{Operand}
-use Rattle.slicc_ast.specs.Boxes.{Not', Negate', IsValid'}
+use Rattle.slicc_ast.specs.Prelude.{Not', Negate', IsValid'}
 use Rattle.ruby_value.specs.declared.value.Value.{Value}
 use Rattle.ruby_value.specs.declared.value.Value.TheVariants as plain
 use Rattle.acts.specs.declared.body_fault.BodyFault.{BodyFault}
-use Rattle.acts.specs.Acting.{Acting, ends, given, ◌>>=◌}
-use Rattle.built_in_acts.specs.Values.{reference, truth}
+use Rattle.acts.specs.Prelude.{Acting, ends, given, ◌>>=◌}
+use Rattle.built_in_acts.specs.Prelude.{reference, truth}
 use Rattle.body_meaning.specs.declared.frame.Frame.{Frame}
 use Rattle.body_meaning.specs.declared.thing.Thing.{Thing}
 use Rattle.body_meaning.specs.declared.thing.Thing.TheVariants as thing
-use Rattle.body_meaning.specs.Calls.{Calls, named_call, value_found}
-use Rattle.body_meaning.specs.Each.{each}
-use Rattle.body_meaning.specs.Expressions.{operand_step, value, values_of, variable}
-use Rattle.body_meaning.specs.Names.{member_value}
-use Rattle.body_meaning.specs.Operators.{negated}
-use Rattle.body_meaning.specs.Reading.{Reading}
-use Rattle.body_meaning.specs.Things.{boolean, no_line, value_in}
-use Rattle.body_walk.specs.declared.operators.Unary.{Unary}
-use Rattle.body_walk.specs.declared.operators.Unary.TheVariants.{Not, Negate, IsValid, IsInvalid}
+use Rattle.body_meaning.specs.Prelude.{Calls, named_call, value_found, each, operand_step, value, values_of, variable, member_value, negated, Reading, boolean, no_line, value_in}
+use Rattle.body_walk.specs.declared.places.Unary.{Unary}
+use Rattle.body_walk.specs.declared.places.Unary.TheVariants.{Not, Negate, IsValid, IsInvalid}
 
 -- of a call that changes what the body has of its own, and answers nothing
 abbrev pub left_frame : Frame → Unit {0} → Frame

@@ -1,13 +1,9 @@
 // What expressions give, with the operands, suffixes and arguments in them.
-ghost use Rattle.acts.specs.DoesAs.{DoesAs, itself};
-ghost use Rattle.body_walk.specs.CallsDo.{CallsDo};
-ghost use Rattle.body_meaning.specs.Bodies.{calls_within};
-ghost use Rattle.body_meaning.specs.Each.{each};
-ghost use Rattle.body_meaning.specs.Expressions.{operand_step, suffixed, value, value_behind, values_of};
-ghost use Rattle.body_meaning.specs.Reading.{reading};
-ghost use Rattle.body_walk.specs.Parts.{called, leaf, of_operand, operation};
+ghost use Rattle.acts.specs.Prelude.{DoesAs, itself};
+ghost use Rattle.body_walk.specs.Prelude.{CallsDo, called, leaf, of_operand, operation};
+ghost use Rattle.body_meaning.specs.Prelude.{calls_within, each, operand_step, suffixed, value, value_behind, values_of, reading};
 
-use crate::operators::{Unary, joined_values, thing_made, unary_of};
+use crate::places::{Unary, joined_values, thing_made, unary_of};
 use crate::{field_in, index, method_call, named_call, value_found, variable};
 use acts::{Local, Trouble, Value};
 use body_meaning::{Frame, Scope, Thing, member_value, settled, value_in};

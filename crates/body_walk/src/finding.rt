@@ -2,13 +2,10 @@
 ghost use Rattle.std.specs.Prelude.{◌≡◌, IfOk};
 ghost use Rattle.std.specs.Option.{option_copied};
 ghost use Rattle.acts.specs.declared.body_fault.BodyFault.TheVariants as own;
-ghost use Rattle.acts.specs.Acting.{found};
-ghost use Rattle.acts.specs.DoesAs.{DoesAs, itself};
-ghost use Rattle.body_walk.specs.CallsDo.{CallsDo};
-ghost use Rattle.body_meaning.specs.declared.place.Place.TheVariants as place;
-ghost use Rattle.body_meaning.specs.Bodies.{calls_within};
-ghost use Rattle.body_meaning.specs.Places.{field_place, line_place, name_behind, name_in, part_place, place_behind, place_last, place_of, place_with};
-ghost use Rattle.body_meaning.specs.Reading.{reading};
+ghost use Rattle.acts.specs.Prelude.{found, DoesAs, itself};
+ghost use Rattle.body_walk.specs.Prelude.{CallsDo};
+ghost use Rattle.body_meaning.specs.declared.frame.Place.TheVariants as place;
+ghost use Rattle.body_meaning.specs.Prelude.{calls_within, field_place, line_place, name_behind, name_in, part_place, place_behind, place_last, place_of, place_with, reading};
 
 use crate::expressions::value_behind;
 use acts::{BodyFault, Local, NoMemory, Trouble, Value};

@@ -6,15 +6,10 @@ mod built;
 mod expressions;
 mod finding;
 mod frames;
-mod messages;
-mod named;
-mod operators;
 mod places;
 
-pub use built::{index, method_call, named_call};
+pub use built::{field_in, index, method_call, named_call, value_found, variable};
 pub use expressions::{value, value_behind, values_of};
 pub use finding::{place_of, place_with};
-pub use frames::{leave, rebind};
-pub use messages::new_message;
-pub use named::{field_in, value_found, variable};
+pub use frames::{leave, new_message, rebind};
 pub use places::{at_place, with_place};

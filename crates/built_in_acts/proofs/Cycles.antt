@@ -1,12 +1,8 @@
 -- The cycle of a local is a signed number of 64 bits, since the local is lawful.
 use Rattle.std.proofs.Common.{◌≡◌, ◌<◌, ◌≤◌, ◌^◌, ◌∙◌, ℕ, Result, Ok, refl, sym, ap, arith}
 use Rattle.ruby_value.specs.declared.fault.Fault.{Fault}
-use Rattle.ctl_face.specs.Fits.{IsLawful}
-use Rattle.ctl_face.specs.LocalView.{LocalView}
-use Rattle.acts.specs.Act.{Now}
-use Rattle.acts.specs.Acting.{Acting, act}
-use Rattle.acts.specs.DoesAs.{DoesAs, itself}
-use Rattle.acts.specs.Done.{Done}
+use Rattle.ctl_face.specs.Prelude.{IsLawful, LocalView}
+use Rattle.acts.specs.Prelude.{Now, Acting, act, DoesAs, itself, Done}
 use Rattle.acts.proofs.Calls.{now_does}
 
 module _ {A : Type 0} where

@@ -1,13 +1,12 @@
 -- The search for a controller's machine, and the numbers of a range, one step at a time.
 use Rattle.std.proofs.Common.{◌≡◌, ◌+◌, ◌-◌, ℕ, zero, suc, List, Result, refl, subst, sym, arith}
-use Rattle.ruby_value.specs.WithMember.{with_member}
+use Rattle.ruby_value.specs.Prelude.{with_member}
 use Rattle.ctl_face.specs.declared.trouble.Trouble.{Trouble}
-use Rattle.ctl_face.specs.LocalView.{LocalView}
-use Rattle.acts.specs.Acting.{Acting, ends, ◌>>=◌, either}
-use Rattle.acts.specs.DoesAs.{DoesAs, itself}
+use Rattle.ctl_face.specs.Prelude.{LocalView}
+use Rattle.acts.specs.Prelude.{Acting, ends, ◌>>=◌, either, DoesAs, itself}
 use Rattle.built_in_acts.specs.declared.machines.KeptMachines.{KeptMachines}
 use Rattle.built_in_acts.specs.declared.machines.Placed.{Placed}
-use Rattle.built_in_acts.specs.Machines.{index_in, is_in, placed_from, range_at, with_numbers}
+use Rattle.built_in_acts.specs.Prelude.{index_in, is_in, placed_from, range_at, with_numbers}
 
 abbrev pub first_place : Placed
 first_place = record { machine = 0; index = 0 }

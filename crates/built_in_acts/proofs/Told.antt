@@ -3,11 +3,10 @@ use Rattle.std.proofs.Common.{◌≡◌, Option, None, Some, Result, Ok, Err, Is
 use Rattle.ruby_value.specs.declared.value.Value.{Value}
 use Rattle.ctl_face.specs.declared.trouble.Trouble.{Trouble}
 use Rattle.ctl_face.specs.declared.trouble.Trouble.TheVariants.{NoMemory}
-use Rattle.ctl_face.specs.LocalView.{LocalView}
-use Rattle.acts.specs.Acting.{Acting, ends}
-use Rattle.acts.specs.DoesAs.{DoesAs, itself}
+use Rattle.ctl_face.specs.Prelude.{LocalView}
+use Rattle.acts.specs.Prelude.{Acting, ends, DoesAs, itself}
 use Rattle.acts.proofs.Walk.{does_ends_as, does_without_memory, then_does, then_stops}
-use Rattle.built_in_acts.specs.BuiltIn.{silent, told}
+use Rattle.built_in_acts.specs.Prelude.{silent, told}
 
 module _ {A : Type 0} (p : Acting A) where
   pub silent_does : (x : A) (v w : LocalView) → DoesAs itself p (Ok x) v w → DoesAs itself (silent p) (Ok None) v w

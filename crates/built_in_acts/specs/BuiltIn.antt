@@ -8,12 +8,10 @@ use Rattle.std.specs.Option.{option_map}
 use Rattle.ruby_value.specs.declared.value.Ref.{Ref}
 use Rattle.ruby_value.specs.declared.value.Value.{Value}
 use Rattle.ruby_value.specs.declared.value.Value.TheVariants as value
-use Rattle.ruby_value.specs.Lines.{line_of}
-use Rattle.ruby_value.specs.WithMember.{with_member}
-use Rattle.ruby_value.specs.WithoutMember.{without_member}
+use Rattle.ruby_value.specs.Prelude.{line_of, with_member, without_member}
 use Rattle.acts.specs.declared.body_fault.BodyFault.TheVariants as own
 use Rattle.acts.specs.Act as act
-use Rattle.acts.specs.Acting.{Acting, ends, stops, ◌>>=◌, act as done, found}
+use Rattle.acts.specs.Prelude.{Acting, ends, stops, ◌>>=◌, act as done, found}
 use Rattle.built_in_acts.specs.declared.call.Call.{Call}
 use Rattle.built_in_acts.specs.declared.call.Call.TheVariants as call
 use Rattle.built_in_acts.specs.declared.call.ControllerCall.{ControllerCall}
@@ -30,7 +28,7 @@ use Rattle.built_in_acts.specs.declared.call.ValueCall.{ValueCall}
 use Rattle.built_in_acts.specs.declared.call.ValueCall.TheVariants as plain
 use Rattle.built_in_acts.specs.declared.machines.KeptMachines.{KeptMachines}
 use Rattle.built_in_acts.specs.declared.machines.Placed.{Placed}
-use Rattle.built_in_acts.specs.declared.setting.CallSetting.{CallSetting}
+use Rattle.built_in_acts.specs.declared.call.CallSetting.{CallSetting}
 use Rattle.built_in_acts.specs.Calls.{call_at}
 use Rattle.built_in_acts.specs.Machines.{home_in, place_of, range_at, with_range}
 use Rattle.built_in_acts.specs.Values.{address_of_line, argument, block, controller, controllers, line_named, member, number, reference, zeros}

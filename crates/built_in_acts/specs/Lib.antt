@@ -3,3 +3,4 @@ pub mod Operators
 pub mod Machines
 pub mod Calls
 pub mod BuiltIn
+pub mod Prelude

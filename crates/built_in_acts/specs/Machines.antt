@@ -3,9 +3,8 @@
 -- For a number that is in several machines' ranges it is the first one's. That they are kept so is this project's own.
 use Rattle.std.specs.Prelude.{ℕ, zero, suc, ℤ, pos, negsuc, ◌+◌, ◌-◌, ◌*◌, ◌%◌, Bool, true, false, ◌&&◌, Option, None, Some, List, nat_le, nat_lt, min, if◌then◌else◌}
 use Rattle.ruby_value.specs.declared.value.Ref.{Ref}
-use Rattle.ruby_value.specs.WithMember.{with_member}
-use Rattle.acts.specs.Act.{Get}
-use Rattle.acts.specs.Acting.{Acting, ends, ◌>>=◌, act, either}
+use Rattle.ruby_value.specs.Prelude.{with_member}
+use Rattle.acts.specs.Prelude.{Get, Acting, ends, ◌>>=◌, act, either}
 use Rattle.built_in_acts.specs.declared.machines.KeptMachines.{KeptMachines}
 use Rattle.built_in_acts.specs.declared.machines.Placed.{Placed}
 use Rattle.built_in_acts.specs.declared.machines.Range.{Range}

@@ -7,8 +7,7 @@ use Rattle.ruby_value.specs.declared.value.Value.{Value}
 use Rattle.ruby_value.specs.declared.value.Value.TheVariants as value
 use Rattle.acts.specs.declared.body_fault.BodyFault.{BodyFault}
 use Rattle.acts.specs.declared.body_fault.BodyFault.TheVariants as own
-use Rattle.acts.specs.Act.{Get, Set}
-use Rattle.acts.specs.Acting.{Acting, ◌>>=◌, act, found}
+use Rattle.acts.specs.Prelude.{Get, Set, Acting, ◌>>=◌, act, found}
 use Rattle.built_in_acts.specs.Values.{number, reference}
 
 -- a number, if it is one of 64 bits

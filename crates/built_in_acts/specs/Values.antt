@@ -7,7 +7,7 @@ use Rattle.ruby_value.specs.declared.value.Block.{Block}
 use Rattle.ruby_value.specs.declared.value.Ref.{Ref}
 use Rattle.ruby_value.specs.declared.value.Value.{Value}
 use Rattle.ruby_value.specs.declared.value.Value.TheVariants as value
-use Rattle.ruby_value.specs.Lines.{line_limit, line_of}
+use Rattle.ruby_value.specs.Prelude.{line_limit, line_of}
 
 abbrev pub truth : Value → Bool
 truth (value.Bool b) = b

@@ -1,5 +1,8 @@
 ghost use Rattle.std.specs.Prelude.{◌≡◌};
-ghost use Rattle.built_in_acts.specs.Calls.{call_at as call_is, calls};
+ghost use Rattle.built_in_acts.specs.Calls.{call_at, calls};
+
+use crate::KeptMachines;
+use ruby_value::Seq;
 
 /// A call on messages, which a port names or that wait.
 #[derive(Clone, Copy)]
@@ -192,10 +195,20 @@ fn all_calls() -> &'static [Call]
 /// What the call of this number does, in action code's numbering: those of the table of built-in calls in its order, one for each
 /// count of arguments, then the actor number, a stall, and the setting of the built-in state.
 pub fn call_at(n: u16) -> Call
-    ensures { result ≡ call_is n }
+    ensures { result ≡ call_at n }
 {
     match all_calls().get(usize::from(n)) {
         Some(call) => *call,
         None => Call::NotServed,
     }
+}
+
+/// What the built-in calls need to know of a machine beside its setup. It is the same for all its controllers.
+#[derive(Drop)]
+pub struct CallSetting {
+    /// Of each table, by its number, whether references to its lines are TBE references: those of a TBE table are, and those of
+    /// another one whose lines have the structure of the machine's TBE type.
+    pub tbe_references: Seq<bool>,
+    /// Where the controllers keep the numbers of all machines' controllers.
+    pub kept: KeptMachines,
 }

@@ -1,16 +1,14 @@
 // What each built-in call does: its arguments are read, its acts are done, and its value is made.
 ghost use Rattle.std.specs.Prelude.{◌≡◌, Some, Ok, pos};
 ghost use Rattle.ruby_value.specs.declared.value.Value.TheVariants as value;
-ghost use Rattle.acts.specs.Act.{Now};
-ghost use Rattle.acts.specs.Acting.{act};
-ghost use Rattle.acts.specs.DoesAs.{DoesAs, itself};
-ghost use Rattle.built_in_acts.specs.BuiltIn.{built_in as built_in_is, line_used, of_values as of_values_is, on_controller as on_controller_is, on_machines as on_machines_is, on_messages as on_messages_is, on_table as on_table_is, referred as referred_is, told, used};
-ghost use Rattle.built_in_acts.specs.Values.{argument};
+ghost use Rattle.acts.specs.Prelude.{Now, act, DoesAs, itself};
+ghost use Rattle.built_in_acts.specs.Prelude.{built_in, line_used, of_values, on_controller, on_machines, on_messages, on_table, referred, told, used, argument};
 
-use crate::call::{Call, ControllerCall, MachineCall, MessageCall, TableCall, ValueCall, call_at};
+use crate::call::{
+    Call, CallSetting, ControllerCall, MachineCall, MessageCall, TableCall, ValueCall, call_at,
+};
 use crate::machines::{KeptMachines, add_range, home_in, place_of, range_at};
 use crate::sets::{controllers_at, of_set};
-use crate::setting::CallSetting;
 use crate::values::{
     address_of_line, block_at, controller_at, line_at, member_at, number_at, reference,
 };
@@ -27,7 +25,7 @@ pub fn on_messages<T: Local>(
     on: u16,
     arguments: &[Value],
 ) -> Result<Option<Value>, Trouble>
-    ensures { DoesAs itself (on_messages_is call on arguments.now) result (T.view local.old)
+    ensures { DoesAs itself (on_messages call on arguments.now) result (T.view local.old)
         (T.view local.new) }
 {
     match call {
@@ -69,7 +67,7 @@ fn use_line<T: Local>(local: &mut T, table: u16, arguments: &[Value]) -> Result<
 
 // A reference to a line of a table, as a value.
 fn referred(setting: &CallSetting, table: u16, r: Option<Ref>) -> Value
-    ensures { result ≡ referred_is setting.now table r }
+    ensures { result ≡ referred setting.now table r }
 {
     match setting.tbe_references.get(usize::from(table)) {
         Some(true) => Value::Tbe(r),
@@ -85,7 +83,7 @@ pub fn on_table<T: Local>(
     on: u16,
     arguments: &[Value],
 ) -> Result<Option<Value>, Trouble>
-    ensures { DoesAs itself (on_table_is setting.now call on arguments.now) result (T.view local.old)
+    ensures { DoesAs itself (on_table setting.now call on arguments.now) result (T.view local.old)
         (T.view local.new) }
 {
     let line = line_at(arguments, 0);
@@ -127,7 +125,7 @@ pub fn on_controller<T: Local>(
     call: ControllerCall,
     arguments: &[Value],
 ) -> Result<Option<Value>, Trouble>
-    ensures { DoesAs itself (on_controller_is call arguments.now) result (T.view local.old)
+    ensures { DoesAs itself (on_controller call arguments.now) result (T.view local.old)
         (T.view local.new) }
 {
     match call {
@@ -150,7 +148,7 @@ pub fn on_controller<T: Local>(
 
 /// What a call answers that needs no more than its arguments.
 pub fn of_values(call: ValueCall, arguments: &[Value]) -> Option<Value>
-    ensures { result ≡ of_values_is call arguments.now }
+    ensures { result ≡ of_values call arguments.now }
 {
     match call {
         ValueCall::HasLine => Some(Value::Bool(true)),
@@ -169,7 +167,7 @@ pub fn on_machines<T: Local>(
     call: MachineCall,
     arguments: &[Value],
 ) -> Result<Option<Value>, Trouble>
-    ensures { DoesAs itself (on_machines_is kept call arguments.now) result (T.view local.now)
+    ensures { DoesAs itself (on_machines kept call arguments.now) result (T.view local.now)
         (T.view local.now) }
 {
     match call {
@@ -207,7 +205,7 @@ pub fn built_in<T: Local>(
     on: u16,
     arguments: &[Value],
 ) -> Result<Option<Value>, Trouble>
-    ensures { DoesAs itself (built_in_is setting.now n on arguments.now) result (T.view local.old)
+    ensures { DoesAs itself (built_in setting.now n on arguments.now) result (T.view local.old)
         (T.view local.new) }
 {
     match call_at(n) {

@@ -7,11 +7,11 @@ mod doing;
 mod machines;
 mod operators;
 mod sets;
-mod setting;
 mod values;
 
 pub use call::{
-    Call, ControllerCall, MachineCall, MessageCall, SetCall, TableCall, ValueCall, call_at,
+    Call, CallSetting, ControllerCall, MachineCall, MessageCall, SetCall, TableCall, ValueCall,
+    call_at,
 };
 pub use doing::{built_in, of_values, on_controller, on_machines, on_messages, on_table};
 pub use machines::{KeptMachines, Placed, Range, add_range, home_in, place_of, range_at};
@@ -19,7 +19,6 @@ pub use operators::{
     are_equal, difference, field_of, is_at_most, is_less, negation, product, sum, with_field,
 };
 pub use sets::of_set;
-pub use setting::CallSetting;
 pub use values::{
     address, address_of_line, block, controller, line_named, member, number, reference, truth,
 };

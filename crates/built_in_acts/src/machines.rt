@@ -1,8 +1,8 @@
 // The controllers of each machine, as a controller keeps them among its parameters.
 ghost use Rattle.std.specs.Prelude.{◌≡◌, ◌<◌, ◌≤◌, ◌+◌, IfOk, IfSome, OnOk};
-ghost use Rattle.acts.specs.DoesAs.{DoesAs, itself};
-ghost use Rattle.built_in_acts.specs.Machines.{home_in as home_is, index_in, is_in as is_in_of, kept_number as kept_number_is, place_of as place_is, placed_from as placed_from_is, range_at as range_at_is, range_of as range_of_is, small as small_of, with_numbers as with_numbers_is, with_range as with_range_is};
-ghost use Rattle.built_in_acts.specs.Values.{number as number_of};
+ghost use Rattle.acts.specs.Prelude.{DoesAs, itself};
+ghost use Rattle.built_in_acts.specs.Machines.{home_in, index_in, is_in, kept_number, place_of, placed_from, range_at, range_of, small, with_numbers, with_range};
+ghost use Rattle.built_in_acts.specs.Values.{number};
 
 use crate::values::number;
 use acts::{Local, NoMemory, Ref, Trouble, Value, get};
@@ -35,7 +35,7 @@ pub struct Placed {
 }
 
 fn small(v: &Value) -> u8
-    ensures { result ≡ small_of (number_of v.now) }
+    ensures { result ≡ small (number v.now) }
 {
     let n = number(v);
     if n < 0 || n > 255 {
@@ -45,7 +45,7 @@ fn small(v: &Value) -> u8
 }
 
 fn range_of(first: u8, count: u8) -> Option<Range>
-    ensures does { result ≡ range_of_is first count }
+    ensures does { result ≡ range_of first count }
     ensures some { IfSome result (λ r. 1 ≤ r.count) }
 {
     if first < 64 && count >= 1 && count <= 64 {
@@ -57,7 +57,7 @@ fn range_of(first: u8, count: u8) -> Option<Range>
 #[tactic(auto, using(acts::proofs::Walk::walk_steps), unfolding(crate::specs::Machines::kept_number))]
 fn kept_number<T: Local>(local: &T, kept: KeptMachines, place: u16) -> Result<u8, Trouble>
     requires { place < 1024 }
-    ensures { DoesAs itself (kept_number_is kept place) result (T.view local.now)
+    ensures { DoesAs itself (kept_number kept place) result (T.view local.now)
         (T.view local.now) }
 {
     let r = Ref {
@@ -75,7 +75,7 @@ pub fn range_at<T: Local>(
     kept: KeptMachines,
     machine: u16,
 ) -> Result<Option<Range>, Trouble>
-    ensures does { DoesAs itself (range_at_is kept machine) result (T.view local.now)
+    ensures does { DoesAs itself (range_at kept machine) result (T.view local.now)
         (T.view local.now) }
     ensures some { IfOk result (λ o. IfSome o (λ r. 1 ≤ r.count)) }
 {
@@ -90,7 +90,7 @@ pub fn range_at<T: Local>(
 /// The controller of a machine that takes a line.
 pub fn home_in(line: u64, range: Option<Range>) -> u32
     requires { IfSome range (λ r. 1 ≤ r.count) }
-    ensures { result ≡ home_is line range }
+    ensures { result ≡ home_in line range }
 {
     match range {
         Some(r) => u32::from(r.first) + (line % u64::from(r.count)) as u32,
@@ -99,7 +99,7 @@ pub fn home_in(line: u64, range: Option<Range>) -> u32
 }
 
 fn is_in(range: Option<Range>, controller: u32) -> bool
-    ensures { result ≡ is_in_of range controller }
+    ensures { result ≡ is_in range controller }
 {
     match range {
         Some(r) => {
@@ -127,7 +127,7 @@ fn placed_from<T: Local>(
     machine: u16,
 ) -> Result<Placed, Trouble>
     requires { machine + left < 1024 }
-    ensures { DoesAs itself (placed_from_is kept controller left machine) result
+    ensures { DoesAs itself (placed_from kept controller left machine) result
         (T.view local.now) (T.view local.now) }
 {
     if left == 0 {
@@ -147,7 +147,7 @@ fn placed_from<T: Local>(
 /// The machine of a controller, and its index there.
 #[tactic(auto, using(acts::proofs::Walk::walk_steps), unfolding(crate::specs::Machines::place_of))]
 pub fn place_of<T: Local>(local: &T, kept: KeptMachines, controller: u32) -> Result<Placed, Trouble>
-    ensures { DoesAs itself (place_is kept controller) result (T.view local.now)
+    ensures { DoesAs itself (place_of kept controller) result (T.view local.now)
         (T.view local.now) }
 {
     placed_from(local, kept, controller, kept.count, 0)
@@ -156,7 +156,7 @@ pub fn place_of<T: Local>(local: &T, kept: KeptMachines, controller: u32) -> Res
 #[tactic(auto, using(crate::proofs::Placing::numbers_none, crate::proofs::Placing::numbers_more))]
 fn add_numbers(members: &mut NetDest, first: u32, left: u8) -> Result<(), NoMemory>
     requires { first + left < 1024 }
-    ensures { OnOk result (members.new ≡ with_numbers_is members.old first left) }
+    ensures { OnOk result (members.new ≡ with_numbers members.old first left) }
 {
     if left == 0 {
         return Ok(());
@@ -167,7 +167,7 @@ fn add_numbers(members: &mut NetDest, first: u32, left: u8) -> Result<(), NoMemo
 
 /// Adds the controllers of a machine, if it has any.
 pub fn add_range(members: &mut NetDest, range: Option<Range>) -> Result<(), NoMemory>
-    ensures { OnOk result (members.new ≡ with_range_is members.old range) }
+    ensures { OnOk result (members.new ≡ with_range members.old range) }
 {
     match range {
         Some(r) => add_numbers(members, u32::from(r.first), r.count),

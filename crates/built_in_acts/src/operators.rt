@@ -1,14 +1,14 @@
 // Sums with their fault, comparisons, and fields through references.
 ghost use Rattle.std.specs.Prelude.{◌≡◌};
-ghost use Rattle.acts.specs.DoesAs.{DoesAs, itself};
-ghost use Rattle.built_in_acts.specs.Operators.{are_equal as are_equal_of, difference as difference_of, field_of as field_is, is_at_most as at_most, is_less as less, negation as negation_of, product as product_of, sum as sum_of, with_field as with_field_is};
+ghost use Rattle.acts.specs.Prelude.{DoesAs, itself};
+ghost use Rattle.built_in_acts.specs.Prelude.{are_equal, difference, field_of, is_at_most, is_less, negation, product, sum, with_field};
 
 use crate::values::{number, reference};
 use acts::{BodyFault, Local, Trouble, Value, get, set};
 
 /// The sum, or the fault where it is outside signed 64 bits.
 pub fn sum(a: &Value, b: &Value) -> Result<i64, BodyFault>
-    ensures { result ≡ sum_of a.now b.now }
+    ensures { result ≡ sum a.now b.now }
 {
     match ruby_value::add(number(a), number(b)) {
         Some(n) => Ok(n),
@@ -18,7 +18,7 @@ pub fn sum(a: &Value, b: &Value) -> Result<i64, BodyFault>
 
 /// The difference, or the fault where it is outside signed 64 bits.
 pub fn difference(a: &Value, b: &Value) -> Result<i64, BodyFault>
-    ensures { result ≡ difference_of a.now b.now }
+    ensures { result ≡ difference a.now b.now }
 {
     match ruby_value::sub(number(a), number(b)) {
         Some(n) => Ok(n),
@@ -28,7 +28,7 @@ pub fn difference(a: &Value, b: &Value) -> Result<i64, BodyFault>
 
 /// The product, or the fault where it is outside signed 64 bits.
 pub fn product(a: &Value, b: &Value) -> Result<i64, BodyFault>
-    ensures { result ≡ product_of a.now b.now }
+    ensures { result ≡ product a.now b.now }
 {
     match ruby_value::mul(number(a), number(b)) {
         Some(n) => Ok(n),
@@ -38,7 +38,7 @@ pub fn product(a: &Value, b: &Value) -> Result<i64, BodyFault>
 
 /// The negation, or the fault where it is outside signed 64 bits.
 pub fn negation(a: &Value) -> Result<i64, BodyFault>
-    ensures { result ≡ negation_of a.now }
+    ensures { result ≡ negation a.now }
 {
     match ruby_value::sub(0, number(a)) {
         Some(n) => Ok(n),
@@ -48,21 +48,21 @@ pub fn negation(a: &Value) -> Result<i64, BodyFault>
 
 /// Whether the first number is less than the second.
 pub fn is_less(a: &Value, b: &Value) -> bool
-    ensures { result ≡ less a.now b.now }
+    ensures { result ≡ is_less a.now b.now }
 {
     number(a) < number(b)
 }
 
 /// Whether the first number is at most the second.
 pub fn is_at_most(a: &Value, b: &Value) -> bool
-    ensures { result ≡ at_most a.now b.now }
+    ensures { result ≡ is_at_most a.now b.now }
 {
     number(a) <= number(b)
 }
 
 /// Whether two values are equal, of those sorts that are compared.
 pub fn are_equal(a: &Value, b: &Value) -> bool
-    ensures { result ≡ are_equal_of a.now b.now }
+    ensures { result ≡ are_equal a.now b.now }
 {
     match (a, b) {
         (Value::Bool(a), Value::Bool(b)) => *a == *b,
@@ -78,7 +78,7 @@ pub fn are_equal(a: &Value, b: &Value) -> bool
 /// A field of the line that a reference names.
 #[tactic(auto, using(acts::proofs::Walk::walk_steps), unfolding(crate::specs::Operators::field_of))]
 pub fn field_of<T: Local>(local: &T, v: &Value, field: u16) -> Result<Value, Trouble>
-    ensures { DoesAs itself (field_is v.now field) result (T.view local.now) (T.view local.now) }
+    ensures { DoesAs itself (field_of v.now field) result (T.view local.now) (T.view local.now) }
 {
     let Some(r) = reference(v) else {
         return Err(Trouble::from(BodyFault::Reference));
@@ -89,7 +89,7 @@ pub fn field_of<T: Local>(local: &T, v: &Value, field: u16) -> Result<Value, Tro
 /// Writes a field of the line that a reference names.
 #[tactic(auto, using(acts::proofs::Walk::walk_steps), unfolding(crate::specs::Operators::with_field))]
 pub fn with_field<T: Local>(local: &mut T, v: &Value, field: u16, new: Value) -> Result<(), Trouble>
-    ensures { DoesAs itself (with_field_is v.now field new) result (T.view local.old)
+    ensures { DoesAs itself (with_field v.now field new) result (T.view local.old)
         (T.view local.new) }
 {
     let Some(r) = reference(v) else {

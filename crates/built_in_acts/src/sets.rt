@@ -1,10 +1,8 @@
 // Sets of controllers among arguments, and the calls on them.
 ghost use Rattle.std.specs.Prelude.{◌≡◌, ◌==◌, IfOk, OnOk, length};
 ghost use Rattle.std.specs.List.{fold, list_any};
-ghost use Rattle.ruby_value.specs.WithMember.{with_member};
-ghost use Rattle.ruby_value.specs.WithoutMember.{without_member};
-ghost use Rattle.built_in_acts.specs.BuiltIn.{of_set as of_set_is};
-ghost use Rattle.built_in_acts.specs.Values.{argument, controllers as controllers_of};
+ghost use Rattle.ruby_value.specs.Prelude.{with_member, without_member};
+ghost use Rattle.built_in_acts.specs.Prelude.{of_set, argument, controllers};
 
 use crate::call::SetCall;
 use crate::values::controller_at;
@@ -18,7 +16,7 @@ pub(crate) fn controllers_at(
     arguments: &[Value],
     i: usize,
 ) -> Result<NetDest, NoMemory>
-    ensures { IfOk result (λ members. members ≡ controllers_of (argument arguments.now i)) }
+    ensures { IfOk result (λ members. members ≡ controllers (argument arguments.now i)) }
 {
     match arguments.get(i) {
         Some(Value::Dest(members)) => Ok(members.clone()?),
@@ -28,7 +26,7 @@ pub(crate) fn controllers_at(
 
 // How many controllers the first argument has.
 fn count_of_first(arguments: &[Value]) -> u64
-    ensures { result ≡ length (controllers_of (argument arguments.now 0)) }
+    ensures { result ≡ length (controllers (argument arguments.now 0)) }
 {
     match arguments.get(0) {
         Some(Value::Dest(members)) => members.count(),
@@ -44,7 +42,7 @@ fn has(members: &NetDest, controller: u32) -> bool
 
 // Whether the first argument has a controller.
 fn is_in_first(arguments: &[Value], controller: u32) -> bool
-    ensures { result ≡ list_any (λ m. controller == m) (controllers_of (argument arguments.now 0)) }
+    ensures { result ≡ list_any (λ m. controller == m) (controllers (argument arguments.now 0)) }
 {
     match arguments.get(0) {
         Some(Value::Dest(members)) => has(members, controller),
@@ -77,7 +75,7 @@ fn remove_all(members: &mut NetDest, mut others: NetDest)
 
 /// What a call on a set answers: what is asked of it, or the changed set.
 pub fn of_set(alloc: Global, call: SetCall, arguments: &[Value]) -> Result<Value, NoMemory>
-    ensures { IfOk result (λ v. v ≡ of_set_is call (controllers_of (argument arguments.now 0)) (argument arguments.now 1)) }
+    ensures { IfOk result (λ v. v ≡ of_set call (controllers (argument arguments.now 0)) (argument arguments.now 1)) }
 {
     match call {
         SetCall::Add => {

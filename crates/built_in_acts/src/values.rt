@@ -1,13 +1,13 @@
 // What a value is where a sort is wanted.
 ghost use Rattle.std.specs.Prelude.{◌≡◌, ◌<◌, ◌^◌};
-ghost use Rattle.built_in_acts.specs.Values.{address as address_of, address_of_line as address_of_line_is, argument, block as block_of, controller as controller_of, line_named as line_named_of, member as member_of, number as number_of, reference as reference_of, truth as truth_of};
+ghost use Rattle.built_in_acts.specs.Prelude.{address, address_of_line, argument, block, controller, line_named, member, number, reference, truth};
 
 use acts::{Block, Ref, Value};
 use ruby_value::line_of;
 
 /// Whether it is true; false where it is no truth value.
 pub fn truth(v: &Value) -> bool
-    ensures { result ≡ truth_of v.now }
+    ensures { result ≡ truth v.now }
 {
     match v {
         Value::Bool(b) => *b,
@@ -17,7 +17,7 @@ pub fn truth(v: &Value) -> bool
 
 /// The number; 0 where it is none.
 pub fn number(v: &Value) -> i64
-    ensures { result ≡ number_of v.now }
+    ensures { result ≡ number v.now }
 {
     match v {
         Value::Int(n) => *n,
@@ -27,7 +27,7 @@ pub fn number(v: &Value) -> i64
 
 /// The byte address; 0 where it is none.
 pub fn address(v: &Value) -> u64
-    ensures { result ≡ address_of v.now }
+    ensures { result ≡ address v.now }
 {
     match v {
         Value::Addr(a) => *a,
@@ -37,7 +37,7 @@ pub fn address(v: &Value) -> u64
 
 /// The line of the address.
 pub fn line_named(v: &Value) -> u64
-    ensures line { result ≡ line_named_of v.now }
+    ensures line { result ≡ line_named v.now }
     ensures limit { result < 2 ^ 58 }
 {
     line_of(address(v))
@@ -45,14 +45,14 @@ pub fn line_named(v: &Value) -> u64
 
 /// The address of a line.
 pub fn address_of_line(line: u64) -> u64
-    ensures { result ≡ address_of_line_is line }
+    ensures { result ≡ address_of_line line }
 {
     line % (1 << 58) * 64
 }
 
 /// The controller's number; 0 where it is none.
 pub fn controller(v: &Value) -> u32
-    ensures { result ≡ controller_of v.now }
+    ensures { result ≡ controller v.now }
 {
     match v {
         Value::Machine(number) => *number,
@@ -62,7 +62,7 @@ pub fn controller(v: &Value) -> u32
 
 /// The block; zeros where it is none.
 pub fn block(v: &Value) -> Block
-    ensures { result ≡ block_of v.now }
+    ensures { result ≡ block v.now }
 {
     match v {
         Value::Block(b) => *b,
@@ -72,7 +72,7 @@ pub fn block(v: &Value) -> Block
 
 /// The number of the member of its enumeration; 0 where it is none.
 pub fn member(v: &Value) -> u16
-    ensures { result ≡ member_of v.now }
+    ensures { result ≡ member v.now }
 {
     match v {
         Value::Enum(_, m) => *m,
@@ -82,7 +82,7 @@ pub fn member(v: &Value) -> u16
 
 /// The line that it is a reference to, if it is one.
 pub fn reference(v: &Value) -> Option<Ref>
-    ensures { result ≡ reference_of v.now }
+    ensures { result ≡ reference v.now }
 {
     match v {
         Value::Entry(r) | Value::Tbe(r) => *r,
@@ -92,7 +92,7 @@ pub fn reference(v: &Value) -> Option<Ref>
 
 // The same of an argument; where it isn't there, it counts as false.
 pub(crate) fn number_at(arguments: &[Value], i: usize) -> i64
-    ensures { result ≡ number_of (argument arguments.now i) }
+    ensures { result ≡ number (argument arguments.now i) }
 {
     match arguments.get(i) {
         Some(v) => number(v),
@@ -101,7 +101,7 @@ pub(crate) fn number_at(arguments: &[Value], i: usize) -> i64
 }
 
 pub(crate) fn line_at(arguments: &[Value], i: usize) -> u64
-    ensures line { result ≡ line_named_of (argument arguments.now i) }
+    ensures line { result ≡ line_named (argument arguments.now i) }
     ensures limit { result < 2 ^ 58 }
 {
     match arguments.get(i) {
@@ -111,7 +111,7 @@ pub(crate) fn line_at(arguments: &[Value], i: usize) -> u64
 }
 
 pub(crate) fn controller_at(arguments: &[Value], i: usize) -> u32
-    ensures { result ≡ controller_of (argument arguments.now i) }
+    ensures { result ≡ controller (argument arguments.now i) }
 {
     match arguments.get(i) {
         Some(v) => controller(v),
@@ -120,7 +120,7 @@ pub(crate) fn controller_at(arguments: &[Value], i: usize) -> u32
 }
 
 pub(crate) fn member_at(arguments: &[Value], i: usize) -> u16
-    ensures { result ≡ member_of (argument arguments.now i) }
+    ensures { result ≡ member (argument arguments.now i) }
 {
     match arguments.get(i) {
         Some(v) => member(v),
@@ -129,7 +129,7 @@ pub(crate) fn member_at(arguments: &[Value], i: usize) -> u16
 }
 
 pub(crate) fn block_at(arguments: &[Value], i: usize) -> Block
-    ensures { result ≡ block_of (argument arguments.now i) }
+    ensures { result ≡ block (argument arguments.now i) }
 {
     match arguments.get(i) {
         Some(v) => block(v),

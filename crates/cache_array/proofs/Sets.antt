@@ -2,19 +2,13 @@
 use Rattle.std.proofs.Common.{◌≡◌, ◌↔◌, ℕ, zero, suc, ◌<◌, ◌≤◌, ◌+◌, ◌%◌, List, [], ◌∷◌, Option, None, Some, Result, Ok, Err, OnOk, OnErr, IsOk, IsSome, IfSome, length, get_or, set, refl, sym, ap, ◌∙◌, subst, arith, bit_and}
 use Rattle.std.proofs.lemmas.Result.{on_ok_weaker}
 use Rattle.ruby_value.specs.declared.value.Value.{Value}
-use Rattle.ruby_value.specs.FieldsOf.{fields_of}
-use Rattle.ruby_value.specs.SetOf.{set_of}
-use Rattle.ruby_value.specs.WithFields.{with_fields}
-use Rattle.ruby_value.specs.WithSet.{with_set}
+use Rattle.ruby_value.specs.Prelude.{fields_of, set_of, with_fields, with_set, Cache, Line, IsCache, Roomy}
 use Rattle.std.proofs.Math.ListN.{length-set}
 use Rattle.std.proofs.lemmas.List.{get_or-map, length-map, map-set}
 use Rattle.std.proofs.lemmas.List.Elements.{All-set}
 use Rattle.std.proofs.lemmas.Nat.{and_mask}
-use Rattle.ruby_value.specs.Cache.{Cache, Line}
-use Rattle.ruby_value.specs.IsCache.{IsCache}
-use Rattle.ruby_value.specs.Roomy.{Roomy}
 use Rattle.ruby_value.proofs.CacheEdits.{IsRead, of_set, put_back, cache_with_fields}
-use Rattle.cache_array.specs.Holds.{HasPlaces, Holds, IsMask, lines_of}
+use Rattle.cache_array.specs.Prelude.{HasPlaces, Holds, IsMask, lines_of}
 
 abbrev pub Order : Type 0
 Order = Roomy (List Line)

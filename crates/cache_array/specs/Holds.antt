@@ -2,9 +2,7 @@
 -- where there is a mask, it finds a line's set as the remainder by their number does.
 use Rattle.std.specs.Prelude.{◌≡◌, ◌≤◌, ◌+◌, ◌-◌, ◌^◌, ℕ, List, Option, None, Some, length, map}
 use Rattle.std.specs.List.{All}
-use Rattle.ruby_value.specs.Cache.{Line}
-use Rattle.ruby_value.specs.IsCache.{IsCache}
-use Rattle.ruby_value.specs.Roomy.{Roomy}
+use Rattle.ruby_value.specs.Prelude.{Line, IsCache, Roomy}
 
 -- the lines of each set
 abbrev pub lines_of : List (Roomy (List Line)) → List (List Line)

@@ -1,13 +1,6 @@
 ghost use Rattle.std.specs.Prelude.{◌≡◌, ◌≢◌, ◌==◌, ◌≤◌, ◌<◌, ◌*◌, ◌%◌, ◌↔◌, [], ◌∷◌, ◌++◌, length, replicate, slice_get, slice_set, is_some, IsTrue, IsNone, IsSome, IsOk, IsErrOf, IfOk, IfErr, IfSome, OnOk, OnErr, OnSome, None, Some, false};
 ghost use Rattle.std.specs.Option.{option_copied, option_map};
-ghost use Rattle.ruby_value.specs.Available.{available};
-ghost use Rattle.ruby_value.specs.FieldsOf.{fields_of};
-ghost use Rattle.ruby_value.specs.IsCache.{IsCache};
-ghost use Rattle.ruby_value.specs.MadeRecent.{made_recent};
-ghost use Rattle.ruby_value.specs.SetOf.{set_of};
-ghost use Rattle.ruby_value.specs.WithFields.{with_fields};
-ghost use Rattle.ruby_value.specs.WithSet.{with_set};
-ghost use Rattle.ruby_value.specs.WithoutLine.{without_line};
+ghost use Rattle.ruby_value.specs.Prelude.{available, fields_of, IsCache, made_recent, set_of, with_fields, with_set, without_line};
 ghost use Rattle.std.specs.List.{All};
 ghost use Rattle.cache_array.specs.Holds.{HasPlaces, IsMask, lines_of};
 
@@ -46,7 +39,7 @@ pub struct CacheArray {
 }
 
 impl Model for CacheArray {
-    ghost use Rattle.ruby_value.specs.Cache.{Cache, cache_code};
+    ghost use Rattle.ruby_value.specs.Prelude.{Cache, cache_code};
     ghost use Rattle.cache_array.specs.Holds.{lines_of, Holds};
 
     ghost Value = { Cache };

@@ -1,7 +1,6 @@
 ghost use Rattle.std.specs.Prelude.{◌≡◌, ◌<◌, ◌≤◌, ◌+◌, ◌↔◌, IfErr, IfSome, IsOk, IsSome, OnOk, OnErr, slice_set, vec_len};
 ghost use Rattle.std.specs.FinMap as map;
-ghost use Rattle.ruby_value.specs.Directory.{Directory};
-ghost use Rattle.ruby_value.specs.FieldsAt.{fields_at};
+ghost use Rattle.ruby_value.specs.Prelude.{Directory, fields_at};
 
 use crate::{Fields, NoMemory};
 use ruby_value::{LineMap, Value};
@@ -19,8 +18,7 @@ pub struct DirMemory {
 }
 
 impl Model for DirMemory {
-    ghost use Rattle.ruby_value.specs.Directory.{Directory, directory_code};
-    ghost use Rattle.ruby_value.specs.Roomy.{Roomy, roomy_code};
+    ghost use Rattle.ruby_value.specs.Prelude.{Directory, directory_code, Roomy, roomy_code};
 
     ghost Value = { Roomy Directory };
 

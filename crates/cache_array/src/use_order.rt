@@ -1,10 +1,7 @@
 ghost use Rattle.std.specs.Prelude.{◌≡◌, ◌==◌, ◌<◌, ◌≤◌, ◌+◌, ◌↔◌, [], ◌∷◌, ◌++◌, length, position, slice_get, slice_set, is_some, IsSome, IsOk, IfSome, IfNone, OnOk, OnErr, IfOk, IfErr};
 ghost use Rattle.std.specs.Bool.{OnFalse};
 ghost use Rattle.std.specs.Option.{option_copied, option_map};
-ghost use Rattle.ruby_value.specs.FieldsOf.{fields_of};
-ghost use Rattle.ruby_value.specs.MadeRecent.{made_recent};
-ghost use Rattle.ruby_value.specs.WithFields.{with_fields};
-ghost use Rattle.ruby_value.specs.WithoutLine.{without_line};
+ghost use Rattle.ruby_value.specs.Prelude.{fields_of, made_recent, with_fields, without_line};
 
 use crate::{Fields, NoMemory};
 use ruby_value::Value;
@@ -21,8 +18,7 @@ pub(crate) struct UseOrder {
 impl Model for UseOrder {
     ghost use Rattle.std.specs.Prelude.{List, ◌-◌, vec_len, vec_capacity};
     ghost use Rattle.std.specs.Coded.{coded×, coded_ℕ, coded_list};
-    ghost use Rattle.ruby_value.specs.Cache.{Line};
-    ghost use Rattle.ruby_value.specs.Roomy.{Roomy, roomy_code};
+    ghost use Rattle.ruby_value.specs.Prelude.{Line, Roomy, roomy_code};
     ghost use Rattle.ruby_value.specs.contracts.value.Value as value;
 
     ghost Value = { Roomy (List Line) };

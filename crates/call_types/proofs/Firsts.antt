@@ -2,7 +2,7 @@
 use Rattle.std.proofs.Common.{◌≡◌, ◌∙◌, ◌++◌, Option, None, Some, List, [], ◌∷◌, refl, sym, ap}
 use Rattle.slicc_plan.specs.declared.broken.Broken.{Broken}
 use Rattle.slicc_plan.specs.Buffers.{listed}
-use Rattle.slicc_plan.specs.Order.{earlier_of_both, first_after, first_of}
+use Rattle.slicc_plan.specs.Prelude.{earlier_of_both, first_after, first_of}
 use Rattle.slicc_plan.proofs.Firsts.{both-assoc_all, both-none, first_after-first_of, first_of-append}
 
 pub first_of_listed : (o : Option Broken) → first_of (listed o) ≡ o

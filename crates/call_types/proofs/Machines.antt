@@ -4,8 +4,8 @@ use Rattle.std.specs.Option.{option_copied}
 use Rattle.std.proofs.lemmas.List.{drop_more}
 use Rattle.slicc_ast.specs.declared.tree.item.Tree.{Tree}
 use Rattle.slicc_ast.specs.declared.tree.machine.Machine.{Machine}
-use Rattle.slicc_plan.specs.Declarations.{Scope, everywhere, within, machines_of, wide_scopes}
-use Rattle.call_types.specs.Called.{machines_in}
+use Rattle.slicc_plan.specs.Prelude.{Scope, everywhere, within, machines_of, wide_scopes}
+use Rattle.call_types.specs.Prelude.{machines_in}
 
 pub machines_within : (ms : List Machine) → flat_map machines_in (map within ms) ≡ ms
 machines_within [] = refl

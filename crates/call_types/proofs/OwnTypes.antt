@@ -3,9 +3,8 @@ use Rattle.std.proofs.Common.{◌≡◌, ◌∙◌, ◌++◌, Option, List, [], 
 use Rattle.std.specs.List.{flat_map}
 use Rattle.slicc_ast.specs.declared.tree.machine.Machine.{Machine}
 use Rattle.slicc_ast.specs.declared.tree.machine.Parameter.{Parameter}
-use Rattle.slicc_plan.specs.CallTypes.{events_type, own_type, states_type}
-use Rattle.slicc_plan.specs.Declarations.{Declaration, machine_declarations, named_declarations, parameter}
-use Rattle.slicc_plan.specs.Limits.{is_events, is_states}
+use Rattle.slicc_plan.specs.CallTypes.{own_type}
+use Rattle.slicc_plan.specs.Prelude.{events_type, states_type, Declaration, machine_declarations, named_declarations, parameter, is_events, is_states}
 
 states_behind : (ps : List Parameter) (ds : List Declaration) → find is_states (map parameter ps ++ ds) ≡ find is_states ds
 states_behind [] ds = refl

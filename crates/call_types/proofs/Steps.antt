@@ -12,19 +12,14 @@ use Rattle.slicc_plan.specs.declared.broken.Broken.{Broken}
 use Rattle.slicc_plan.specs.declared.broken.Rule.TheVariants.{NotAllowedHere, WrongCount}
 use Rattle.slicc_plan.specs.Buffers.{listed}
 use Rattle.slicc_plan.specs.CallTypes as call
-use Rattle.slicc_plan.specs.CallTypes.{broken_in, built_in_call, formal_wanted, states_type, wanted_by, wrong_argument, wrong_arguments, wrong_change, wrong_count}
-use Rattle.slicc_plan.specs.BuiltInCalls.{Call, anywhere, permission_reading}
-use Rattle.slicc_plan.specs.Environment.{BodySort, of_port, of_action, of_function, Environment, is_allowed}
+use Rattle.slicc_plan.specs.Prelude.{broken_in, built_in_call, formal_wanted, states_type, wanted_by, wrong_argument, wrong_arguments, wrong_change, wrong_count, Call, anywhere, permission_reading, BodySort, of_port, of_action, of_function, Environment, is_allowed, unless, earlier_of_both, first_of}
 use Rattle.slicc_plan.specs.Meanings as meaning
-use Rattle.slicc_plan.specs.Meanings.{unless}
-use Rattle.slicc_plan.specs.Order.{earlier_of_both, first_of}
 use Rattle.slicc_plan.proofs.Firsts.{both-assoc_all, both-none, first_of-append}
 use Rattle.body_types.specs.declared.meaning.Wanted.{Wanted}
 use Rattle.body_types.specs.declared.typed.Given.{Given}
 use Rattle.body_types.specs.declared.typed.Typed.{Typed}
-use Rattle.body_types.specs.Found.{Found, all_given_of, found_of, given_of, typed_of}
-use Rattle.body_types.specs.Views.{wanted_of}
-use Rattle.call_types.specs.Arguments.{after_arguments, wrong_at}
+use Rattle.body_types.specs.Prelude.{Found, all_given_of, found_of, given_of, typed_of, wanted_of}
+use Rattle.call_types.specs.Prelude.{after_arguments, wrong_at}
 use Rattle.call_types.proofs.Firsts.{first_of_listed, first_of_listed_append}
 
 pub second_given : (gs : List Given) → slice_get (all_given_of gs) 1 ≡ option_map given_of (slice_get gs 1)

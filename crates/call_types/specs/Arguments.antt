@@ -3,10 +3,8 @@ use Rattle.std.specs.Prelude.{ℕ, ◌++◌, ◌∷◌, Option, None, Some, List
 use Rattle.slicc_ast.specs.declared.tree.span.Span.{Span}
 use Rattle.slicc_plan.specs.declared.broken.Broken.{Broken}
 use Rattle.slicc_plan.specs.declared.broken.Rule.TheVariants.{NotThere}
-use Rattle.slicc_plan.specs.CallTypes.{Given, Typed, plain, wrong_argument, wrong_arguments, wrong_count}
-use Rattle.slicc_plan.specs.Environment.{Environment}
-use Rattle.slicc_plan.specs.Meanings.{Wanted, told, unknown}
-use Rattle.slicc_plan.specs.Order.{earlier_of_both, first_of}
+use Rattle.slicc_plan.specs.Prelude.{Given, Typed, plain, wrong_argument, wrong_arguments, wrong_count, Environment, told, unknown, earlier_of_both, first_of}
+use Rattle.slicc_plan.specs.Meanings.{Wanted}
 
 -- what is broken in an argument where that is wanted, or where none is
 abbrev pub wrong_at : Environment → Option Wanted → Given → List Broken

@@ -3,8 +3,8 @@ use Rattle.std.specs.Prelude.{ℕ, Bool, List, [], ◌∷◌}
 use Rattle.std.specs.Str.{bytes_eq}
 use Rattle.slicc_ast.specs.declared.tree.machine.Machine.{Machine}
 use Rattle.slicc_plan.specs.BuiltInCalls as plan
-use Rattle.slicc_plan.specs.Declarations.{Scope, everywhere, within}
-use Rattle.declared_types.specs.Calls.{call_of}
+use Rattle.slicc_plan.specs.Prelude.{Scope, everywhere, within}
+use Rattle.declared_types.specs.Prelude.{call_of}
 use Rattle.call_types.specs.declared.called.Called.{Called}
 use Rattle.call_types.specs.declared.called.Called.TheVariants.{BuiltIn, Permission}
 

@@ -2,14 +2,9 @@
 ghost use Rattle.std.specs.Prelude.{◌≡◌, ◌&&◌, nat_le, map, length, slice_get};
 ghost use Rattle.std.specs.Option.{option_map};
 ghost use Rattle.slicc_plan.specs.declared.broken.Rule.TheVariants.{WrongCount};
-ghost use Rattle.slicc_plan.specs.CallTypes.{broken_in as broken_in_all, wrong_argument as wrong_argument_of, wrong_arguments as wrong_arguments_of, wrong_line_type as wrong_line_type_of};
-ghost use Rattle.slicc_plan.specs.Environment.{type_named as type_named_in};
-ghost use Rattle.slicc_plan.specs.Meanings.{unless as unless_of};
-ghost use Rattle.slicc_plan.specs.Order.{earlier_of_both, first_of};
-ghost use Rattle.body_types.specs.Environments.{IsEnvironment, environment_of};
-ghost use Rattle.body_types.specs.Found.{all_given_of, given_of};
-ghost use Rattle.body_types.specs.Views.{type_if, wanted_of};
-ghost use Rattle.call_types.specs.Arguments.{wrong_at};
+ghost use Rattle.slicc_plan.specs.Prelude.{broken_in, wrong_argument, wrong_arguments, wrong_line_type, type_named, unless, earlier_of_both, first_of};
+ghost use Rattle.body_types.specs.Prelude.{IsEnvironment, environment_of, all_given_of, given_of, type_if, wanted_of};
+ghost use Rattle.call_types.specs.Prelude.{wrong_at};
 
 use body_types::{
     Environment, Given, Meaning, Wanted, told, type_named, unfit, unless, wrong_type_name,
@@ -21,7 +16,7 @@ use slicc_plan::{Broken, Rule, Span, earlier_of_two};
 /// The first that is broken in these.
 #[tactic(auto, using(crate::proofs::Steps::broken_in_more))]
 pub fn broken_in(given: &[Given]) -> Option<Broken>
-    ensures { result ≡ first_of (broken_in_all (all_given_of given.now)) }
+    ensures { result ≡ first_of (broken_in (all_given_of given.now)) }
 {
     let mut first = None;
     for g in given {
@@ -36,7 +31,7 @@ fn wrong_line_type<'a>(
     made: &Name,
 ) -> Option<Broken>
     requires { IsEnvironment env }
-    ensures { result ≡ first_of (wrong_line_type_of (environment_of env.entry) (type_if wanted.entry) made.now (type_named_in (environment_of env.entry) made.now.text)) }
+    ensures { result ≡ first_of (wrong_line_type (environment_of env.entry) (type_if wanted.entry) made.now (type_named (environment_of env.entry) made.now.text)) }
 {
     match type_named(env, made.text.as_slice()) {
         None => wrong_type_name(env, made.text.as_slice(), made.span),
@@ -56,7 +51,7 @@ fn wrong_line_type<'a>(
 
 fn wrong_argument<'a>(env: Environment<'_, 'a>, wanted: Wanted<'a>, g: Given<'a>) -> Option<Broken>
     requires { IsEnvironment env }
-    ensures { result ≡ first_of (wrong_argument_of (environment_of env.entry) (wanted_of wanted.entry) (given_of g.entry)) }
+    ensures { result ≡ first_of (wrong_argument (environment_of env.entry) (wanted_of wanted.entry) (given_of g.entry)) }
 {
     match (wanted, g.typed.meaning) {
         (Wanted::NewLineOf(t), Meaning::NewLine(made)) => wrong_line_type(env, t, made),
@@ -95,7 +90,7 @@ fn wrong_arguments<'a>(
     given: &[Given<'a>],
 ) -> Option<Broken>
     requires { IsEnvironment env }
-    ensures { result ≡ first_of (wrong_arguments_of (environment_of env.entry) (map wanted_of wanted.now) (all_given_of given.now)) }
+    ensures { result ≡ first_of (wrong_arguments (environment_of env.entry) (map wanted_of wanted.now) (all_given_of given.now)) }
 {
     let mut first = None;
     for (number, g) in given.iter().enumerate() {
@@ -115,7 +110,7 @@ pub fn checked<'a>(
     first: Option<Broken>,
 ) -> Option<Broken>
     requires { IsEnvironment env }
-    ensures { result ≡ earlier_of_both (earlier_of_both first (first_of (unless_of (nat_le least (length given.now) && nat_le (length given.now) (length wanted.now)) WrongCount at))) (first_of (wrong_arguments_of (environment_of env.entry) (map wanted_of wanted.now) (all_given_of given.now))) }
+    ensures { result ≡ earlier_of_both (earlier_of_both first (first_of (unless (nat_le least (length given.now) && nat_le (length given.now) (length wanted.now)) WrongCount at))) (first_of (wrong_arguments (environment_of env.entry) (map wanted_of wanted.now) (all_given_of given.now))) }
 {
     let counted = earlier_of_two(first, wrong_count(at, least, wanted.len(), given.len()));
     earlier_of_two(counted, wrong_arguments(env, wanted, given))
@@ -123,7 +118,7 @@ pub fn checked<'a>(
 
 // What is told of a call with so many arguments that takes from `least` to `most`.
 fn wrong_count(at: Span, least: usize, most: usize, given: usize) -> Option<Broken>
-    ensures { result ≡ first_of (unless_of (nat_le least given && nat_le given most) WrongCount at) }
+    ensures { result ≡ first_of (unless (nat_le least given && nat_le given most) WrongCount at) }
 {
     unless(least <= given && given <= most, Rule::WrongCount, at)
 }

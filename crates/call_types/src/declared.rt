@@ -2,16 +2,15 @@
 ghost use Rattle.std.specs.Prelude.{◌≡◌, [], IfOk};
 ghost use Rattle.std.specs.Option.{option_copied, option_map};
 ghost use Rattle.slicc_plan.specs.Buffers.{listed};
-ghost use Rattle.slicc_plan.specs.CallTypes.{built_in_call as built_in_call_in, built_in_named as built_in_named_in, declared_call as declared_call_in, function_call as function_call_in, named_call as named_call_in, not_called as not_called_in, plain as plain_of, plain_call as plain_call_of};
+ghost use Rattle.slicc_plan.specs.Prelude.{built_in_call, built_in_named, declared_call, function_call, named_call, not_called, plain, plain_call};
 ghost use Rattle.slicc_plan.specs.Meanings.{nothing};
-ghost use Rattle.call_types.specs.Called.{call_for};
-ghost use Rattle.declared_types.specs.Lent.{declaration_of};
-ghost use Rattle.body_types.specs.Environments.{IsEnvironment, environment_of};
-ghost use Rattle.body_types.specs.Found.{all_given_of, found_of, typed_of};
+ghost use Rattle.call_types.specs.Prelude.{call_for};
+ghost use Rattle.declared_types.specs.Prelude.{declaration_of};
+ghost use Rattle.body_types.specs.Prelude.{IsEnvironment, environment_of, all_given_of, found_of, typed_of};
 
 use crate::arguments::{broken_in, checked};
-use crate::built_in::{built_in_call, permission_call};
-use crate::typing::plain;
+use crate::called::plain;
+use crate::methods::{built_in_call, permission_call};
 use crate::wanted::add_formals;
 use crate::{Called, plain_call};
 use body_types::{Environment, Given, Meaning, Typed, Written, answer_of_type, told, value_named};
@@ -31,7 +30,7 @@ fn function_call<'a>(
     given: &[Given<'a>],
 ) -> Result<Typed<'a>, NoMemory>
     requires { IsEnvironment env }
-    ensures { IfOk result (λ t. found_of (typed_of t) ≡ found_of (function_call_in (environment_of env.entry) at kind.now formals.now (all_given_of given.now))) }
+    ensures { IfOk result (λ t. found_of (typed_of t) ≡ found_of (function_call (environment_of env.entry) at kind.now formals.now (all_given_of given.now))) }
 {
     let mut wanted = Seq::new(alloc);
     add_formals(env, formals, &mut wanted)?;
@@ -42,7 +41,7 @@ fn function_call<'a>(
 
 /// A call of what isn't there, where that was found to be broken before.
 pub fn not_called<'a>(broken: Option<Broken>, called: &Name, given: &[Given<'a>]) -> Typed<'a>
-    ensures { found_of (typed_of result) ≡ found_of (not_called_in (listed broken) called.now (all_given_of given.now)) }
+    ensures { found_of (typed_of result) ≡ found_of (not_called (listed broken) called.now (all_given_of given.now)) }
 {
     let told_of = earlier_of_two(Some(told(Rule::NotThere, called.span)), broken_in(given));
     plain(Meaning::Unknown, earlier_of_two(broken, told_of))
@@ -57,7 +56,7 @@ fn undeclared_call<'a>(
     given: &[Given<'a>],
 ) -> Result<Typed<'a>, NoMemory>
     requires { IsEnvironment env }
-    ensures { IfOk result (λ t. found_of (typed_of t) ≡ found_of (built_in_call_in (environment_of env.entry) at (plain_of nothing []) (call_for c.entry) (all_given_of given.now))) }
+    ensures { IfOk result (λ t. found_of (typed_of t) ≡ found_of (built_in_call (environment_of env.entry) at (plain nothing []) (call_for c.entry) (all_given_of given.now))) }
 {
     let on = Typed {
         meaning: Meaning::Nothing,
@@ -79,7 +78,7 @@ fn built_in_named<'a>(
     given: &[Given<'a>],
 ) -> Result<Typed<'a>, NoMemory>
     requires { IsEnvironment env }
-    ensures { IfOk result (λ t. found_of (typed_of t) ≡ found_of (built_in_named_in (environment_of env.entry) at called.now (plain_call_of env.entry.scopes.now.trees.now called.now.text) (all_given_of given.now))) }
+    ensures { IfOk result (λ t. found_of (typed_of t) ≡ found_of (built_in_named (environment_of env.entry) at called.now (plain_call env.entry.scopes.now.trees.now called.now.text) (all_given_of given.now))) }
 {
     match plain_call(env.scopes, called.text.as_slice()) {
         None => Ok(not_called(None, called, given)),
@@ -97,7 +96,7 @@ fn declared_call<'a>(
     given: &[Given<'a>],
 ) -> Result<Typed<'a>, NoMemory>
     requires { IsEnvironment env }
-    ensures { IfOk result (λ t. found_of (typed_of t) ≡ found_of (declared_call_in (environment_of env.entry) at called.now (option_map declaration_of d.entry) (all_given_of given.now))) }
+    ensures { IfOk result (λ t. found_of (typed_of t) ≡ found_of (declared_call (environment_of env.entry) at called.now (option_map declaration_of d.entry) (all_given_of given.now))) }
 {
     match d {
         None => built_in_named(alloc, env, at, called, given),
@@ -124,7 +123,7 @@ pub fn named_call<'a>(
     given: &[Given<'a>],
 ) -> Result<Typed<'a>, NoMemory>
     requires { IsEnvironment env }
-    ensures { IfOk result (λ t. found_of (typed_of t) ≡ found_of (named_call_in (environment_of env.entry) at called.now (all_given_of given.now))) }
+    ensures { IfOk result (λ t. found_of (typed_of t) ≡ found_of (named_call (environment_of env.entry) at called.now (all_given_of given.now))) }
 {
     match value_named(env, called.text.as_slice()) {
         Some(_) => {

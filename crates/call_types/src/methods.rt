@@ -1,30 +1,28 @@
-//! Calls on something, indexes among them.
-ghost use Rattle.std.specs.Prelude.{◌≡◌, [], ◌∷◌, IfOk};
+//! Calls on something, indexes among them, and built-in calls.
+ghost use Rattle.std.specs.Prelude.{◌≡◌, [], ◌∷◌, IfOk, map};
 ghost use Rattle.std.specs.Option.{option_copied, option_map};
-ghost use Rattle.slicc_plan.specs.CallTypes.{built_in_receiver as built_in_receiver_of, call_named as call_named_in, index_call as index_call_in, method_call as method_call_in, receiver_of as receiver_in, table_receiver as table_receiver_of, value_receiver as value_receiver_of};
-ghost use Rattle.declared_types.specs.Calls.{call_of, receiver_of as receiver_record};
-ghost use Rattle.declared_types.specs.Lent.{type_of};
-ghost use Rattle.body_types.specs.Environments.{IsEnvironment, environment_of};
-ghost use Rattle.body_types.specs.Found.{all_given_of, found_of, given_of, typed_of};
-ghost use Rattle.body_types.specs.Lines.{AreLines};
-ghost use Rattle.body_types.specs.Views.{meaning_of};
-ghost use Rattle.call_types.specs.Arguments.{not_indexed as not_indexed_of};
+ghost use Rattle.slicc_plan.specs.Prelude.{built_in_receiver, call_named, index_call, method_call, receiver_of as receiver_in, table_receiver, value_receiver, permission_reading, answer_of as answer_in, built_in_call, plain, wanted_by, is_allowed};
+ghost use Rattle.declared_types.specs.Prelude.{call_of, receiver_of as receiver_record, type_of, allowed_of, answer_of as answer_record, argument_of, receiver_of};
+ghost use Rattle.body_types.specs.Prelude.{IsEnvironment, environment_of, all_given_of, found_of, given_of, typed_of, AreLines, meaning_of, sort_of};
+ghost use Rattle.call_types.specs.Prelude.{not_indexed, after_arguments};
+ghost use Rattle.slicc_plan.specs.Meanings.{nothing};
 
-use crate::arguments::broken_in;
-use crate::built_in::built_in_call;
-use crate::call_on;
+use crate::arguments::{broken_in, checked};
 use crate::declared::not_called;
-use crate::typing::plain;
-use crate::writing::is_told;
-use body_types::{Environment, Given, Lines, Meaning, Typed, has_line, told};
-use declared_types::{Call, KnownType, Receiver};
-use ruby_base::NoMemory;
-use slicc_ast::tree::Name;
-use slicc_plan::{BuiltInType, Rule, Span, earlier_of_two};
+use crate::wanted::{add_wanted, states_type, structure_on, wrong_change};
+use crate::{call_on, is_told, plain};
+use body_types::{
+    BodySort, Environment, Given, Lines, Meaning, Typed, Wanted, has_line, line_of_structure, told,
+    unless,
+};
+use declared_types::{Allowed, Answer, Call, KnownType, Receiver};
+use ruby_base::{NoMemory, Seq};
+use slicc_ast::tree::{Machine, Name};
+use slicc_plan::{Broken, BuiltInType, Rule, Span, earlier_of_two};
 use std::alloc::Global;
 
 fn table_receiver(b: BuiltInType) -> Option<Receiver>
-    ensures { option_map receiver_record result ≡ table_receiver_of b }
+    ensures { option_map receiver_record result ≡ table_receiver b }
 {
     match b {
         BuiltInType::Cache => Some(Receiver::Cache),
@@ -36,7 +34,7 @@ fn table_receiver(b: BuiltInType) -> Option<Receiver>
 }
 
 fn built_in_receiver(b: BuiltInType) -> Option<Receiver>
-    ensures { option_map receiver_record result ≡ built_in_receiver_of b }
+    ensures { option_map receiver_record result ≡ built_in_receiver b }
 {
     match b {
         BuiltInType::NetDest => Some(Receiver::NetDest),
@@ -47,7 +45,7 @@ fn built_in_receiver(b: BuiltInType) -> Option<Receiver>
 
 fn value_receiver<'a>(lines: Lines<'a>, t: KnownType<'a>) -> Option<Receiver>
     requires { AreLines lines }
-    ensures { option_map receiver_record result ≡ value_receiver_of lines.entry.machine.now (type_of t.entry) }
+    ensures { option_map receiver_record result ≡ value_receiver lines.entry.machine.now (type_of t.entry) }
 {
     if let KnownType::BuiltIn(b) = t {
         return built_in_receiver(b);
@@ -74,7 +72,7 @@ fn receiver_of<'a>(lines: Lines<'a>, meaning: Meaning<'a>) -> Option<Receiver>
 // The call of this name on that.
 fn call_named<'a>(lines: Lines<'a>, on: Meaning<'a>, text: &[u8]) -> Option<&'static Call>
     requires { AreLines lines }
-    ensures { option_map call_of (option_copied result) ≡ call_named_in lines.entry.machine.now (meaning_of on.entry) text.now }
+    ensures { option_map call_of (option_copied result) ≡ call_named lines.entry.machine.now (meaning_of on.entry) text.now }
 {
     match receiver_of(lines, on) {
         None => None,
@@ -92,7 +90,7 @@ pub fn method_call<'a>(
     given: &[Given<'a>],
 ) -> Result<Typed<'a>, NoMemory>
     requires { IsEnvironment env }
-    ensures { IfOk result (λ t. found_of (typed_of t) ≡ found_of (method_call_in (environment_of env.entry) at (typed_of on.entry) called.now (all_given_of given.now))) }
+    ensures { IfOk result (λ t. found_of (typed_of t) ≡ found_of (method_call (environment_of env.entry) at (typed_of on.entry) called.now (all_given_of given.now))) }
 {
     if is_told(on.meaning) {
         let first = earlier_of_two(on.broken, broken_in(given));
@@ -106,7 +104,7 @@ pub fn method_call<'a>(
 
 // What isn't indexed, with this between the brackets.
 fn not_indexed<'a>(at: Span, on: Typed<'a>, key: Given<'a>) -> Typed<'a>
-    ensures { found_of (typed_of result) ≡ found_of (not_indexed_of at (typed_of on.entry) (given_of key.entry)) }
+    ensures { found_of (typed_of result) ≡ found_of (not_indexed at (typed_of on.entry) (given_of key.entry)) }
 {
     let told_of = earlier_of_two(Some(told(Rule::NotThere, at)), key.typed.broken);
     plain(Meaning::Unknown, earlier_of_two(on.broken, told_of))
@@ -121,7 +119,7 @@ pub fn index_call<'a>(
     key: Given<'a>,
 ) -> Result<Typed<'a>, NoMemory>
     requires { IsEnvironment env }
-    ensures { IfOk result (λ t. found_of (typed_of t) ≡ found_of (index_call_in (environment_of env.entry) at (typed_of on.entry) (given_of key.entry))) }
+    ensures { IfOk result (λ t. found_of (typed_of t) ≡ found_of (index_call (environment_of env.entry) at (typed_of on.entry) (given_of key.entry))) }
 {
     if is_told(on.meaning) {
         let first = earlier_of_two(on.broken, key.typed.broken);
@@ -131,4 +129,80 @@ pub fn index_call<'a>(
         None => Ok(not_indexed(at, on, key)),
         Some(c) => built_in_call(alloc, env, at, on, c, &[key]),
     }
+}
+
+fn answer_of<'a>(lines: Lines<'a>, on: Receiver, answer: Answer) -> Meaning<'a>
+    requires { AreLines lines }
+    ensures { meaning_of result ≡ answer_in lines.entry.machine.now (receiver_of on) (answer_record answer) }
+{
+    match answer {
+        Answer::Nothing => Meaning::Nothing,
+        Answer::Value(b) => Meaning::Value(KnownType::BuiltIn(b)),
+        Answer::Line => line_of_structure(lines, structure_on(lines, on)),
+    }
+}
+
+// Whether what is allowed there is allowed in a body of this sort.
+fn is_allowed(sort: BodySort, allowed: Allowed) -> bool
+    ensures { result ≡ is_allowed (sort_of sort) (allowed_of allowed) }
+{
+    match allowed {
+        Allowed::Anywhere => true,
+        Allowed::InPorts => matches!(sort, BodySort::Port),
+        Allowed::InActions => matches!(sort, BodySort::Action),
+    }
+}
+
+// The first of what was found before and of what is broken in the arguments of a call.
+fn wrong_given<'a>(
+    alloc: Global,
+    env: Environment<'_, 'a>,
+    at: Span,
+    c: &Call,
+    given: &[Given<'a>],
+    first: Option<Broken>,
+) -> Result<Option<Broken>, NoMemory>
+    requires { IsEnvironment env }
+    ensures { IfOk result (λ o. o ≡ after_arguments (environment_of env.entry) at (wanted_by env.entry.lines.machine.now (receiver_of c.now.receiver) (map argument_of c.now.always.now)) (wanted_by env.entry.lines.machine.now (receiver_of c.now.receiver) (map argument_of c.now.perhaps.now)) (all_given_of given.now) first) }
+{
+    let mut wanted = Seq::new(alloc);
+    add_wanted(env.lines, c.receiver, c.always, &mut wanted)?;
+    let least = wanted.len();
+    add_wanted(env.lines, c.receiver, c.perhaps, &mut wanted)?;
+    Ok(checked(env, at, &wanted, least, given, first))
+}
+
+/// A built-in call on that.
+pub fn built_in_call<'a>(
+    alloc: Global,
+    env: Environment<'_, 'a>,
+    at: Span,
+    on: Typed<'a>,
+    c: &Call,
+    given: &[Given<'a>],
+) -> Result<Typed<'a>, NoMemory>
+    requires { IsEnvironment env }
+    ensures { IfOk result (λ t. found_of (typed_of t) ≡ found_of (built_in_call (environment_of env.entry) at (typed_of on.entry) (call_of c.now) (all_given_of given.now))) }
+{
+    let allowed = unless(is_allowed(env.sort, c.allowed), Rule::NotAllowedHere, at);
+    let first = earlier_of_two(on.broken, allowed);
+    let first = wrong_given(alloc, env, at, c, given, first)?;
+    let first = earlier_of_two(first, wrong_change(c.change, at, on, given));
+    Ok(plain(answer_of(env.lines, c.receiver, c.answer), first))
+}
+
+/// The call from the states of a machine to permissions.
+pub fn permission_call<'a>(
+    env: Environment<'_, 'a>,
+    at: Span,
+    m: &'a Machine,
+    given: &[Given<'a>],
+) -> Typed<'a>
+    requires { IsEnvironment env }
+    ensures { found_of (typed_of result) ≡ found_of (built_in_call (environment_of env.entry) at (plain nothing []) (permission_reading m.entry.now) (all_given_of given.now)) }
+{
+    let wanted = [Wanted::OneOf(None, states_type(m))];
+    let first = checked(env, at, &wanted, 1, given, None);
+    let permission = KnownType::BuiltIn(BuiltInType::AccessPermission);
+    plain(Meaning::Value(permission), first)
 }

@@ -7,22 +7,15 @@ use Rattle.std.proofs.lemmas.List.Sums.{sum_by-cons}
 use Rattle.ruby_value.specs.declared.asked.Asked.{Asked}
 use Rattle.ruby_value.specs.declared.message.Message.{Message}
 use Rattle.ruby_value.specs.declared.message.MsgNo.{MsgNo}
-use Rattle.ruby_value.specs.Requests.{IsRequest, Requests, with_request, without_first_answer}
-use Rattle.ruby_value.specs.Roomy.{Roomy}
+use Rattle.ruby_value.specs.Prelude.{IsRequest, Requests, with_request, without_first_answer, Roomy}
 use Rattle.ctl_face.specs.Between as between
-use Rattle.ctl_face.specs.Between.{with_arrival}
-use Rattle.ctl_face.specs.Ctl.{Ctl, InboxMessage}
+use Rattle.ctl_face.specs.Prelude.{with_arrival, Ctl, InboxMessage, Fits, TakesFields}
 use Rattle.ctl_face.specs.declared.routes.Routes.{Routes}
-use Rattle.ctl_face.specs.Fits.{Fits}
-use Rattle.ctl_face.specs.OfMachine.{TakesFields}
 use Rattle.ctl_face.proofs.Betweens.{answer_keeps, arrival_keeps, request_keeps}
-use Rattle.ctl_mail.specs.Census.{capped, is_queued, is_recycled, is_stalled}
-use Rattle.ctl_mail.specs.MailOf.{IsNewIn}
+use Rattle.ctl_mail.specs.Prelude.{capped, is_queued, is_recycled, is_stalled, IsNewIn}
 use Rattle.ctl_store.specs.declared.parts.Parts.{Parts}
-use Rattle.ctl_store.specs.Kept.{ctl_of, machine_of, me_of, requests_of}
-use Rattle.ctl_store.specs.Lending.{with_sequencer}
-use Rattle.ctl_store.specs.Room.{IsSameStore}
-use Rattle.controller_rows.specs.Going.{GoesOn}
+use Rattle.ctl_store.specs.Prelude.{ctl_of, machine_of, me_of, requests_of, with_sequencer, IsSameStore}
+use Rattle.controller_rows.specs.Prelude.{GoesOn}
 use Rattle.controller_rows.proofs.Going.{goes_as, same_then}
 
 -- each message is queued, stalled or recycled

@@ -2,7 +2,7 @@
 use Rattle.std.proofs.Common.{◌≡◌, ℕ, ◌+◌, ◌<◌, ◌≤◌, suc, Bool, true, false, List, [], ◌∷◌, nat_le, length, refl, arith}
 use Rattle.std.proofs.lemmas.Bool.Decides.{nat_tests}
 use Rattle.sequencer.specs.declared.issued.Issued.{Issued}
-use Rattle.controller_rows.specs.Script.{count_due}
+use Rattle.controller_rows.specs.Prelude.{count_due}
 
 pub none-due : (now : ℕ) (i : Issued) (rest : List Issued) → now < i.asked.issued → count_due now (i ∷ rest) ≡ 0
 none-due now i rest lt = let no : nat_le i.asked.issued now ≡ false = grind (arith, nat_tests, lt) in rw no refl

@@ -3,18 +3,11 @@ use Rattle.std.proofs.Common.{◌≡◌, ℕ, sym, ap, subst, ◌∙◌}
 use Rattle.run_journal.specs.declared.entry.FireNote.{FireNote}
 use Rattle.ruby_value.specs.declared.setup.MachineSetup.{MachineSetup}
 use Rattle.ctl_face.specs.declared.routes.Routes.{Routes}
-use Rattle.ctl_face.specs.Ctl.{Ctl}
-use Rattle.ctl_face.specs.Fits.{Fits, IsLawful}
-use Rattle.ctl_face.specs.LocalView.{Actor, LocalView, SameScan}
-use Rattle.ctl_face.specs.Opening.{opening_ctl}
-use Rattle.ctl_face.specs.RoutesFit.{HasRoutes}
-use Rattle.ctl_face.specs.ScanView.{scan_view}
+use Rattle.ctl_face.specs.Prelude.{Ctl, Fits, IsLawful, Actor, LocalView, SameScan, opening_ctl, HasRoutes, scan_view}
 use Rattle.ctl_store.specs.declared.outcome.Outcome.{Outcome}
 use Rattle.ctl_store.specs.declared.parts.Parts.{Parts}
-use Rattle.ctl_store.specs.Kept.{ctl_of, machine_of, me_of}
-use Rattle.ctl_store.specs.Sealed.{IsOutcomeFor, IsOutcomeOf, outcome_ctl}
-use Rattle.ctl_store.specs.Room.{IsSameStore}
-use Rattle.controller_rows.specs.Going.{GoesOn, IsDone}
+use Rattle.ctl_store.specs.Prelude.{ctl_of, machine_of, me_of, IsOutcomeFor, IsOutcomeOf, outcome_ctl, IsSameStore}
+use Rattle.controller_rows.specs.Prelude.{GoesOn, IsDone}
 
 pub is_done : (s : Parts) (actor : Actor) (now : ℕ) (v0 v : LocalView) (note : FireNote) (o : Outcome) → actor.me ≡ me_of s
     → v0 ≡ scan_view (machine_of s) actor now (ctl_of s) → SameScan v0 v → IsOutcomeOf v note o → IsLawful v → IsDone s now o

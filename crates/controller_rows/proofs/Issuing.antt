@@ -3,9 +3,8 @@ use Rattle.std.proofs.Common.{◌≡◌, ℕ, ◌+◌, ◌<◌, ◌↔◌, Bool,
 use Rattle.std.proofs.lemmas.Bool.{and_from, and_left, and_right}
 use Rattle.ruby_value.specs.declared.asked.Asked.{Asked}
 use Rattle.sequencer.specs.declared.issued.Issued.{Issued}
-use Rattle.sequencer.specs.Drive.{after_issuing}
-use Rattle.sequencer.specs.Seats.{Seat, Seating, outstanding_at, with_issued, with_seats}
-use Rattle.controller_rows.specs.Script.{can_be_issued, issued_of, may_be_issued}
+use Rattle.sequencer.specs.Prelude.{after_issuing, Seat, Seating, outstanding_at, with_issued, with_seats}
+use Rattle.controller_rows.specs.Prelude.{can_be_issued, issued_of, may_be_issued}
 
 -- the seats after these requests
 abbrev pub after_each : ℕ → Seating → List Issued → Seating

@@ -1,10 +1,9 @@
 -- Taking answers seat by seat comes to the seats that taking the first of each has.
 use Rattle.std.proofs.Common.{◌≡◌, ℕ, ◌+◌, ◌-◌, ◌<◌, ◌≤◌, suc, Option, Some, None, List, length, sym, ap, ◌∙◌, arith, refl}
 use Rattle.ruby_value.specs.declared.asked.Answer.{Answer}
-use Rattle.sequencer.specs.Drive.{after_taking}
-use Rattle.sequencer.specs.Seats.{Seat, first_answer_at, without_answer_at}
+use Rattle.sequencer.specs.Prelude.{after_taking, Seat, first_answer_at, without_answer_at}
 use Rattle.sequencer.proofs.SeatsAfter.{unchanged}
-use Rattle.controller_rows.specs.Script.{and_taken, first_answers}
+use Rattle.controller_rows.specs.Prelude.{and_taken, first_answers}
 
 one-by : (m k : ℕ) (seats : List Seat) (o : Option Answer) → first_answer_at seats k ≡ o
     → after_taking seats (and_taken k o (first_answers m (k + 1) (without_answer_at seats k)))

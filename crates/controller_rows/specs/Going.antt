@@ -2,12 +2,10 @@
 -- controller, on a draft that is sealed or dropped.
 use Rattle.std.specs.Prelude.{ℕ}
 use Rattle.ctl_face.specs.declared.routes.Routes.{Routes}
-use Rattle.ctl_face.specs.Fits.{Fits}
-use Rattle.ctl_face.specs.RoutesFit.{HasRoutes}
+use Rattle.ctl_face.specs.Prelude.{Fits, HasRoutes}
 use Rattle.ctl_store.specs.declared.outcome.Outcome.{Outcome}
 use Rattle.ctl_store.specs.declared.parts.Parts.{Parts}
-use Rattle.ctl_store.specs.Kept.{ctl_of, machine_of, me_of}
-use Rattle.ctl_store.specs.Sealed.{IsOutcomeFor, outcome_ctl}
+use Rattle.ctl_store.specs.Prelude.{ctl_of, machine_of, me_of, IsOutcomeFor, outcome_ctl}
 use Rattle.controller_rows.specs.declared.scans.ScanEnd.{ScanEnd}
 use Rattle.controller_rows.specs.declared.scans.ScanEnd.TheVariants.{Fired}
 

@@ -8,10 +8,9 @@ use Rattle.std.proofs.lemmas.List.{length-take}
 use Rattle.std.specs.Option.{option_map}
 use Rattle.ruby_value.specs.declared.asked.Answer.{Answer}
 use Rattle.ruby_value.specs.declared.asked.Asked.{Asked}
-use Rattle.ruby_value.specs.Requests.{IsRequest}
+use Rattle.ruby_value.specs.Prelude.{IsRequest}
 use Rattle.sequencer.specs.declared.issued.Issued.{Issued}
-use Rattle.sequencer.specs.Drive.{CanIssue, CanIssueOne, CanTake, IsLawful, after_taking}
-use Rattle.sequencer.specs.Seats.{FitSeats, Seat, Seating, first_answer_at, outstanding_at, with_issued, with_seats, without_answer_at}
+use Rattle.sequencer.specs.Prelude.{CanIssue, CanIssueOne, CanTake, IsLawful, after_taking, FitSeats, Seat, Seating, first_answer_at, outstanding_at, with_issued, with_seats, without_answer_at}
 use Rattle.sequencer.proofs.SeatsAfter.{unchanged}
 use Rattle.controller_rows.specs.Script.{State, and_taken, can_be_issued, count_due, due, first_answers, is_request, issued_of, left, may_be_issued, opening, script_drive, script_needs, seats_after}
 

@@ -8,7 +8,7 @@ use Rattle.ruby_value.specs.declared.setup.MachineSetup.{MachineSetup}
 use Rattle.ruby_value.specs.declared.setup.TableSetup.{TableSetup}
 use Rattle.ruby_value.specs.declared.value.Value.{Value}
 use Rattle.ruby_value.specs.declared.value.Value.TheVariants.{Int}
-use Rattle.ruby_value.specs.DefaultValue.{default_value}
+use Rattle.ruby_value.specs.Prelude.{default_value}
 use Rattle.controller_rows.specs.declared.machines.BufferRow.{BufferRow}
 use Rattle.controller_rows.specs.declared.machines.MachineRow.{MachineRow}
 use Rattle.controller_rows.specs.declared.machines.TableRow.{TableRow}

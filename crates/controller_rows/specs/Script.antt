@@ -6,10 +6,9 @@ use Rattle.std.specs.Prelude.{ℕ, zero, suc, ◌+◌, ◌^◌, ◌==◌, ◌&&�
 use Rattle.std.specs.Option.{option_map}
 use Rattle.ruby_value.specs.declared.asked.Answer.{Answer}
 use Rattle.ruby_value.specs.declared.asked.Asked.{Asked}
-use Rattle.ruby_value.specs.Requests.{with_request}
+use Rattle.ruby_value.specs.Prelude.{with_request}
 use Rattle.sequencer.specs.declared.issued.Issued.{Issued}
-use Rattle.sequencer.specs.Drive.{Drive, Taken, after_taking}
-use Rattle.sequencer.specs.Seats.{Seat, changed_at, first_answer_at, outstanding_at, without_answer_at}
+use Rattle.sequencer.specs.Prelude.{Drive, Taken, after_taking, Seat, changed_at, first_answer_at, outstanding_at, without_answer_at}
 
 -- all its requests, and with how many of them it is done
 pub record State : Type 0 where

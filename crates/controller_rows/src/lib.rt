@@ -1,35 +1,21 @@
-//! Rows of a controller's parts, worked out by hand, as lists of steps with their answers: fields and sets of controllers, buffers, stall
-//! maps, caches, directories, TBE tables and sequencers; and of random words and of a journal. For other rows and for timing there are
-//! machines, routes and messages made of rows of plain data, stores of controllers with their scans and what is done around these, and the
-//! plans that the scans are by. And there is a driver that issues the requests of a list, each at its seat in its cycle.
+//! What rows of controllers and programs that time them are made of: machines, routes and messages by rows of plain data, stores of
+//! controllers with their scans and what is done around these, and the plans that the scans are by. And there is a driver that issues the
+//! requests of a list, each at its seat in its cycle. Of a controller's parts there are rows of what no whole run shows.
 #![tactic(auto)]
 
-mod answers;
-mod buffers;
-mod caches;
-mod controllers;
-mod copies;
-mod directories;
-mod fields;
-mod journals;
 mod machines;
 mod messages;
+mod parts;
 mod paths;
 mod plans;
-mod players;
 mod scans;
 mod script;
-mod sequencers;
-mod sets;
-mod stalls;
 mod steps;
 mod stores;
-mod tbes;
-mod words;
 
-pub use controllers::add_controllers;
 pub use machines::{BufferRow, MachineRow, TableRow, machine};
 pub use messages::{message, number_of, one_field};
+pub use parts::add_controllers;
 pub use paths::{Network, routes};
 pub use plans::plan_of;
 pub use scans::{ScanEnd, scan};

@@ -1,6 +1,6 @@
 //! Fields of one value, and messages.
 ghost use Rattle.std.specs.Prelude.{◌≡◌, [], ◌∷◌, false, IfOk};
-ghost use Rattle.controller_rows.specs.Samples.{number_in};
+ghost use Rattle.controller_rows.specs.Prelude.{number_in};
 
 use ctl_face::{Fields, Message, NoMemory, Value};
 use ruby_value::MsgNo;

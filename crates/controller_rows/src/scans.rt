@@ -1,8 +1,8 @@
 // A scan of a store's controller, on a draft that is sealed where it has fired, and else dropped.
 ghost use Rattle.std.specs.Prelude.{◌≤◌, IfOk};
-ghost use Rattle.ctl_face.specs.Fits.{last_cycle};
-ghost use Rattle.ctl_store.specs.Drafted.{view_of};
-ghost use Rattle.protocol_meaning.specs.Rounds.{StaysIfFired};
+ghost use Rattle.ctl_face.specs.Prelude.{last_cycle};
+ghost use Rattle.ctl_store.specs.Prelude.{view_of};
+ghost use Rattle.protocol_meaning.specs.Prelude.{StaysIfFired};
 ghost use Rattle.controller_rows.specs.Going.{GoesOn, IsEndOf};
 
 use body_meaning::RoundEnd;

@@ -1,5 +1,5 @@
 ghost use Rattle.std.specs.Prelude.{◌≡◌, ◌≤◌, ◌+◌, [], ◌∷◌, length};
-ghost use Rattle.sequencer.specs.Drive.{after_drive, after_issuing, after_taking};
+ghost use Rattle.sequencer.specs.Prelude.{after_drive, after_issuing, after_taking};
 ghost use Rattle.controller_rows.specs.Law.{script_lawful, script_lasting};
 ghost use Rattle.controller_rows.specs.Script.{count_due, due, first_answers, is_request, issued_of, left, may_be_issued, next_cycle, opening, script_drive, script_needs};
 

@@ -1,9 +1,8 @@
 // What is done around the scans of a controller: a cycle begins, what a scan has changed is made so, and a mark is set for the next cycle.
 ghost use Rattle.std.specs.Prelude.{◌≡◌, ◌<◌, ◌+◌, ◌-◌, ◌^◌, IfOk, OnOk};
-ghost use Rattle.ctl_face.specs.Between.{with_wake_up};
-ghost use Rattle.ctl_store.specs.Kept.{ctl_of};
-ghost use Rattle.ctl_store.specs.Sealed.{outcome_acts};
-ghost use Rattle.controller_rows.specs.Going.{GoesOn, IsDone};
+ghost use Rattle.ctl_face.specs.Prelude.{with_wake_up};
+ghost use Rattle.ctl_store.specs.Prelude.{ctl_of, outcome_acts};
+ghost use Rattle.controller_rows.specs.Prelude.{GoesOn, IsDone};
 
 use ctl_face::{Message, NoMemory, Routes, Seq, acts_between_scans_keep_what_holds};
 use ctl_store::{Outcome, Store};

@@ -1,10 +1,9 @@
 // A store that is made ready for scans. Whatever is done to it, its controller goes on.
 ghost use Rattle.std.specs.Prelude.{◌≡◌, ◌↔◌, [], IfOk, IfSome, IsTrue};
-ghost use Rattle.ruby_value.specs.Requests.{IsRequest};
-ghost use Rattle.ctl_face.specs.OfMachine.{TakesFields};
-ghost use Rattle.ctl_store.specs.Kept.{ctl_of};
-ghost use Rattle.ctl_store.specs.Room.{IsSameStore};
-ghost use Rattle.controller_rows.specs.Going.{GoesOn};
+ghost use Rattle.ruby_value.specs.Prelude.{IsRequest};
+ghost use Rattle.ctl_face.specs.Prelude.{TakesFields};
+ghost use Rattle.ctl_store.specs.Prelude.{ctl_of, IsSameStore};
+ghost use Rattle.controller_rows.specs.Prelude.{GoesOn};
 
 use ctl_face::{
     Fields, MachineSetup, Message, NoMemory, Routes, has_routes, is_machine,

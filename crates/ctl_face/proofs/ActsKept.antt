@@ -16,35 +16,12 @@ use Rattle.ruby_value.specs.declared.setup.BufferSetup.{BufferSetup}
 use Rattle.ruby_value.specs.declared.setup.MachineSetup.{MachineSetup}
 use Rattle.ruby_value.specs.declared.value.Block.{Block}
 use Rattle.ruby_value.specs.declared.value.Value.{Value}
-use Rattle.ruby_value.specs.HasKinds.{has_kinds}
-use Rattle.ruby_value.specs.NumberBefore.{same_number}
-use Rattle.ctl_face.specs.Acts.{Acts, sent_of}
+use Rattle.ruby_value.specs.Prelude.{has_kinds, same_number, Requests, numbers_from}
+use Rattle.ctl_face.specs.Prelude.{Acts, sent_of, ActsFit, IsRouted, MailMoves, SentFits, after_front, at_front, after_callback, called_back, read_back, write_back, InboxMessage, Mail, after_sending, enqueue, for_others, NumbersAscend, IsFront, is_latency, Actor, LocalView, incoming_message, message_kinds, mail_without, pop, front_now, mail_with_recycled, message_arriving_again, recycle, Sending, no_copies, receivers_of, send, AddsCopies, IsNetworkCopy, SendAdds, mail_with_waiting, message_waiting_under, stall, Table, after_change, change_if_there, changed_table, table_at, message_waiting_no_longer, with_woken}
 use Rattle.ruby_value.specs.declared.message.Delivery.{Delivery}
 use Rattle.ruby_value.specs.declared.message.Sent.{Sent}
-use Rattle.ctl_face.specs.ActsFit.{ActsFit, IsRouted, MailMoves, SentFits}
-use Rattle.ctl_face.specs.AtFront.{after_front, at_front}
-use Rattle.ctl_face.specs.Callback.{after_callback, called_back, read_back, write_back}
 use Rattle.ruby_value.specs.declared.asked.BackFault.{BackFault}
 use Rattle.ruby_value.specs.Callback as callback
-use Rattle.ctl_face.specs.Ctl.{InboxMessage, Mail}
-use Rattle.ruby_value.specs.Requests.{Requests}
-use Rattle.ctl_face.specs.Enqueue.{after_sending, enqueue, for_others}
-use Rattle.ctl_face.specs.Fits.{NumbersAscend}
-use Rattle.ctl_face.specs.Front.{IsFront}
-use Rattle.ctl_face.specs.Latency.{is_latency}
-use Rattle.ctl_face.specs.LocalView.{Actor, LocalView}
-use Rattle.ctl_face.specs.Mailing.{incoming_message}
-use Rattle.ctl_face.specs.OfMachine.{message_kinds}
-use Rattle.ctl_face.specs.Pop.{mail_without, pop}
-use Rattle.ctl_face.specs.Ready.{front_now}
-use Rattle.ctl_face.specs.Recycle.{mail_with_recycled, message_arriving_again, recycle}
-use Rattle.ctl_face.specs.Send.{Sending, no_copies, receivers_of, send}
-use Rattle.ctl_face.specs.SendAdds.{AddsCopies, IsNetworkCopy, SendAdds}
-use Rattle.ruby_value.specs.NumbersFrom.{numbers_from}
-use Rattle.ctl_face.specs.Stall.{mail_with_waiting, message_waiting_under, stall}
-use Rattle.ctl_face.specs.Table.{Table}
-use Rattle.ctl_face.specs.Tables.{after_change, change_if_there, changed_table, table_at}
-use Rattle.ctl_face.specs.Wake.{message_waiting_no_longer, with_woken}
 use Rattle.ctl_face.proofs.Arrivals.{arrives_later}
 use Rattle.ctl_face.proofs.Fronts.{front_first}
 use Rattle.ctl_face.proofs.Inboxes.{KeepsNumber}

@@ -12,21 +12,8 @@ use Rattle.ruby_value.specs.declared.message.MsgNo.{MsgNo}
 use Rattle.ruby_value.specs.declared.setup.BufferPlace.{BufferPlace}
 use Rattle.ruby_value.specs.declared.setup.BufferSetup.{BufferSetup}
 use Rattle.ruby_value.specs.declared.setup.BufferPlace.TheVariants as place
-use Rattle.ctl_face.specs.Again.{again}
-use Rattle.ruby_value.specs.Ascending.{with_mark}
-use Rattle.ctl_face.specs.Acts.{Acts}
-use Rattle.ctl_face.specs.AtFront.{at_front, after_front}
-use Rattle.ctl_face.specs.Ctl.{Mail}
-use Rattle.ctl_face.specs.Enqueue.{after_sending, enqueue}
-use Rattle.ctl_face.specs.Lasts.{last_at}
-use Rattle.ctl_face.specs.Latency.{is_latency}
-use Rattle.ctl_face.specs.LocalView.{Actor, LocalView}
-use Rattle.ctl_face.specs.Mailing.{mail_with_delivery}
-use Rattle.ctl_face.specs.MarksAhead.{MarksAhead}
-use Rattle.ctl_face.specs.Ready.{front_now}
-use Rattle.ctl_face.specs.Recycle.{mail_with_recycled, recycle}
-use Rattle.ctl_face.specs.Routing.{receiving_buffer}
-use Rattle.ctl_face.specs.Send.{Sending, copy_limit, no_copies, sending_on, local_arrival, local_copy, network_arrival, next_copy, receivers_of, send, sending_from, with_network_copy}
+use Rattle.ctl_face.specs.Prelude.{again, Acts, at_front, after_front, Mail, after_sending, enqueue, last_at, is_latency, Actor, LocalView, mail_with_delivery, MarksAhead, front_now, mail_with_recycled, recycle, receiving_buffer, Sending, copy_limit, no_copies, sending_on, local_arrival, local_copy, network_arrival, next_copy, receivers_of, send, sending_from, with_network_copy}
+use Rattle.ruby_value.specs.Prelude.{with_mark}
 use Rattle.ctl_face.proofs.Arrivals.{copy_later, positive, raised}
 use Rattle.ctl_face.proofs.Cases.{Good, good_ok, good_err, good_cond, good_unless}
 

@@ -12,12 +12,7 @@ use Rattle.ruby_value.specs.declared.setup.MachineSetup.{MachineSetup}
 use Rattle.ruby_value.specs.declared.setup.BufferPlace.TheVariants as place
 use Rattle.ruby_value.specs.declared.message.Delivery.{Delivery}
 use Rattle.ruby_value.specs.declared.message.Message.{Message}
-use Rattle.ctl_face.specs.Ctl.{Mail}
-use Rattle.ctl_face.specs.LocalView.{Actor}
-use Rattle.ctl_face.specs.Lasts.{last_at, lasts_on}
-use Rattle.ctl_face.specs.Latency.{is_latency}
-use Rattle.ctl_face.specs.Routing.{receiving_buffer, path_to, is_ordered}
-use Rattle.ctl_face.specs.Send.{Sending, next_copy, next_jitter, copy_limit, receivers_of, send, sending_from, sending_on, no_copies, with_network_copy, network_arrival, local_arrival, local_copy}
+use Rattle.ctl_face.specs.Prelude.{Mail, Actor, last_at, lasts_on, is_latency, receiving_buffer, path_to, is_ordered, Sending, next_copy, next_jitter, copy_limit, receivers_of, send, sending_from, sending_on, no_copies, with_network_copy, network_arrival, local_arrival, local_copy}
 use Rattle.ctl_face.proofs.Cases.{Good, good_ok, good_err, good_cond, good_unless}
 
 pub raised : (ordered : Bool) (arrival last now : ℕ) → now < arrival → now < cond ordered (max arrival last) arrival

@@ -9,14 +9,9 @@ use Rattle.ruby_value.specs.declared.asked.Asked.{Asked}
 use Rattle.ruby_value.specs.declared.message.Message.{Message}
 use Rattle.ruby_value.specs.declared.setup.BufferSetup.{BufferSetup}
 use Rattle.ruby_value.specs.declared.setup.MachineSetup.{MachineSetup}
-use Rattle.ruby_value.specs.HasKinds.{has_kinds}
+use Rattle.ruby_value.specs.Prelude.{has_kinds, rest_of, Requests, FitsRequests, IsRequest}
 use Rattle.ruby_value.proofs.Ordered.{AllPairs-tail}
-use Rattle.ctl_face.specs.Between.{DriverAct, Takes, Issues, IsDriverAct, after_driver_acts, at_cycle, with_one_fired, with_stop, with_arrival, with_request, with_wake_up, without_first_answer}
-use Rattle.ruby_value.specs.Requests.{rest_of, Requests, FitsRequests, IsRequest}
-use Rattle.ctl_face.specs.Ctl.{Ctl}
-use Rattle.ctl_face.specs.Fits.{Fits, FitsSequencer, ScanFits}
-use Rattle.ctl_face.specs.LocalView.{LocalView}
-use Rattle.ctl_face.specs.Send.{copy_limit}
+use Rattle.ctl_face.specs.Prelude.{DriverAct, Takes, Issues, IsDriverAct, after_driver_acts, at_cycle, with_one_fired, with_stop, with_arrival, with_request, with_wake_up, without_first_answer, Ctl, Fits, FitsSequencer, ScanFits, LocalView, copy_limit}
 use Rattle.ctl_face.proofs.Callbacks.{Outstanding}
 use Rattle.ctl_face.proofs.MailKept.{arrived_fits, mark_fits}
 use Rattle.ctl_face.proofs.Maps.{insert_keeps}

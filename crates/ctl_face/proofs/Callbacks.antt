@@ -8,16 +8,10 @@ use Rattle.ruby_value.specs.declared.fault.Fault.TheVariants.{Callback}
 use Rattle.ruby_value.specs.declared.value.Block.{Block}
 use Rattle.ruby_value.proofs.Ordered.{All-insert, AllPairs-insert}
 use Rattle.ruby_value.specs.Callback as callback
-use Rattle.ruby_value.specs.Callback.{after_answer, finish_read, finish_write, is_store, stored_block}
-use Rattle.ruby_value.specs.Requests.{requests_with_answer, request_for, Requests, FitsRequests, IsRequest}
+use Rattle.ruby_value.specs.Prelude.{after_answer, finish_read, finish_write, is_store, stored_block, requests_with_answer, request_for, Requests, FitsRequests, IsRequest, IsLine}
 use Rattle.ruby_value.specs.declared.asked.BackFault.{BackFault}
 use Rattle.ruby_value.specs.declared.asked.BackFault.TheVariants.{NoRequest, WrongKind}
-use Rattle.ctl_face.specs.Callback.{after_callback, called_back, read_back, write_back}
-use Rattle.ctl_face.specs.Fits.{FitsSequencer, ScanFits}
-use Rattle.ruby_value.specs.Lines.{IsLine}
-use Rattle.ctl_face.specs.LocalView.{LocalView}
-use Rattle.ctl_face.specs.Served.{HasStates}
-use Rattle.ctl_face.specs.State.{set_state}
+use Rattle.ctl_face.specs.Prelude.{after_callback, called_back, read_back, write_back, FitsSequencer, ScanFits, LocalView, HasStates, set_state}
 use Rattle.ctl_face.proofs.Cases.{Good, good_ok, good_err, good_cond}
 use Rattle.ctl_face.proofs.Maps.{insert_keeps, remove_keeps}
 

@@ -5,10 +5,7 @@ use Rattle.ruby_value.specs.declared.kind.Kind.TheVariants as kind
 use Rattle.ruby_value.specs.declared.kind.Kind.{Kind}
 use Rattle.ruby_value.specs.declared.value.Value.TheVariants as value
 use Rattle.ruby_value.specs.declared.value.Value.{Value}
-use Rattle.ruby_value.specs.EqualKinds.{equal_kinds}
-use Rattle.ruby_value.specs.HasKind.{has_kind}
-use Rattle.ruby_value.specs.HasKinds.{has_kinds}
-use Rattle.ruby_value.specs.SameKinds.{same_kinds}
+use Rattle.ruby_value.specs.Prelude.{equal_kinds, has_kind, has_kinds, same_kinds}
 
 enum_takes : (e m n : ℕ) (v : Value) → has_kind (kind.Enum e m) v ≡ true → has_kind (kind.Enum e n) v ≡ true
 enum_takes e m n (value.Enum a b) is = is

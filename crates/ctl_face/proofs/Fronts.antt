@@ -4,9 +4,7 @@ use Rattle.std.specs.Option.{option_map}
 use Rattle.std.proofs.lemmas.Bool.{and_parts}
 use Rattle.ruby_value.specs.Front as general
 use Rattle.ruby_value.proofs.Fronts.{front-is}
-use Rattle.ctl_face.specs.Ctl.{InboxMessage, Mail}
-use Rattle.ctl_face.specs.Front.{is_ready, front, IsFront}
-use Rattle.ctl_face.specs.Mailing.{incoming_message}
+use Rattle.ctl_face.specs.Prelude.{InboxMessage, Mail, is_ready, front, IsFront, incoming_message}
 
 none_is : {X : Type 0} (o : Option X) → is_none o ≡ true → o ≡ None
 none_is None is = refl

@@ -1,6 +1,6 @@
 -- What a list contains, what is kept of it by a test, and what a change makes of it.
 use Rattle.std.proofs.Common.{◌≡◌, suc, Bool, true, false, List, [], ◌∷◌, cond, refl, ap, subst, ⊎_elim, Contains, filter, map, arith}
-use Rattle.ruby_value.proofs.Contained.{Contains-cons_cases as head_or_rest}
+use Rattle.ruby_value.proofs.Contained.{Contains-cons_cases}
 
 module _ {X : Type 0} where
   pub nothing-there : (x : X) → Contains [] x → ⊥
@@ -14,9 +14,9 @@ module _ {X : Type 0} where
 
   kept-by : (y x : X) (ys : List X) (p : X → Bool) (b : Bool) → p y ≡ b → p x ≡ true → Contains (y ∷ ys) x → (Contains ys x → Contains (filter p ys) x) → Contains (cond b (y ∷ filter p ys) (filter p ys)) x
   kept-by y x ys p true is passes has rest =
-      ⊎_elim (λ same. (0, omega arith, same)) (λ there. in-rest y x (filter p ys) (rest there)) (head_or_rest y x ys has)
+      ⊎_elim (λ same. (0, omega arith, same)) (λ there. in-rest y x (filter p ys) (rest there)) (Contains-cons_cases y x ys has)
   kept-by y x ys p false is passes has rest =
-      ⊎_elim (λ same. let so : p x ≡ false = subst (λ z. p z ≡ false) same is in absurd (cc (so, passes))) rest (head_or_rest y x ys has)
+      ⊎_elim (λ same. let so : p x ≡ false = subst (λ z. p z ≡ false) same is in absurd (cc (so, passes))) rest (Contains-cons_cases y x ys has)
 
   -- what passes is kept
   pub in-filter : (p : X → Bool) (xs : List X) (x : X) → p x ≡ true → Contains xs x → Contains (filter p xs) x
@@ -28,7 +28,7 @@ module _ {X : Type 0} where
       ⊎_elim
       (λ same. ((0, omega arith, same), subst (λ z. p z ≡ true) same is))
       (λ there. let so = rest there in (in-rest y x ys so.0, so.1))
-      (head_or_rest y x (filter p ys) has)
+      (Contains-cons_cases y x (filter p ys) has)
   from-by y x ys p false is has rest = let so = rest has in (in-rest y x ys so.0, so.1)
 
   -- what is kept was there and passes
@@ -44,7 +44,7 @@ module _ {X Y : Type 0} (f : X → Y) where
       ⊎_elim
       (λ (same : f x ≡ y). (x, at-head x xs, same))
       (λ there. let so = from-map xs y there in (so.0, in-rest x so.0 xs so.1, so.2))
-      (head_or_rest (f x) y (map f xs) has)
+      (Contains-cons_cases (f x) y (map f xs) has)
 
   pub to-map : (xs : List X) (x : X) → Contains xs x → Contains (map f xs) (f x)
   to-map [] x has = absurd (nothing-there x has)
@@ -52,4 +52,4 @@ module _ {X Y : Type 0} (f : X → Y) where
       ⊎_elim
       (λ (same : z ≡ x). (0, omega arith, ap f same))
       (λ there. in-rest (f z) (f x) (map f xs) (to-map xs x there))
-      (head_or_rest z x xs has)
+      (Contains-cons_cases z x xs has)

@@ -5,10 +5,9 @@ use Rattle.std.proofs.lemmas.List.Elements.{All-filter, All-map, All-weaker}
 use Rattle.std.proofs.lemmas.List.Kept.{AllPairs-filter}
 use Rattle.ruby_value.specs.declared.message.MsgNo.{MsgNo}
 use Rattle.ruby_value.proofs.Ordered.{All-insert, AllPairs-insert, AllPairs-map}
-use Rattle.ctl_face.specs.Ctl.{InboxMessage}
-use Rattle.ctl_face.specs.Fits.{NumbersAscend}
-use Rattle.ruby_value.specs.NumberBefore.{number_before, same_number}
-use Rattle.ctl_face.specs.Inbox.{with_message, without_message}
+use Rattle.ctl_face.specs.Prelude.{InboxMessage, NumbersAscend, without_message}
+use Rattle.ruby_value.specs.Prelude.{number_before, same_number}
+use Rattle.ctl_face.specs.Inbox.{with_message}
 
 pub number_before_trans : (a b c : MsgNo) → IsTrue (number_before a b) → IsTrue (number_before b c) → IsTrue (number_before a c)
 number_before_trans a b c first second = grind (arith, common_steps)

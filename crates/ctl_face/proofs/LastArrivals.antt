@@ -8,10 +8,7 @@ use Rattle.std.specs.FinMap as finite
 use Rattle.std.specs.List.{fold, slice_set}
 use Rattle.ruby_value.specs.declared.message.Message.{Message}
 use Rattle.ruby_value.specs.declared.message.Delivery.{Delivery}
-use Rattle.ctl_face.specs.Ctl.{Mail}
-use Rattle.ctl_face.specs.Lasts.{Lasts, last_at, lasts_on, with_last}
-use Rattle.ctl_face.specs.Mailing.{mail_with_delivery, mail_with_arrival}
-use Rattle.ctl_face.specs.SendAdds.{NetworkLasts, copies_to, latest, mail_with_own}
+use Rattle.ctl_face.specs.Prelude.{Mail, Lasts, last_at, lasts_on, with_last, mail_with_delivery, mail_with_arrival, NetworkLasts, copies_to, latest, mail_with_own}
 
 swap_eqb : (a b : ℕ) → eqb a b ≡ eqb b a
 swap_eqb a b =

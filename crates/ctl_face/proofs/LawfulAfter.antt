@@ -4,13 +4,7 @@ use Rattle.std.proofs.lemmas.List.Elements.{All-nil, All-weaker}
 use Rattle.ruby_value.specs.declared.fault.Fault.{Fault}
 use Rattle.ruby_value.specs.declared.setup.MachineSetup.{MachineSetup}
 use Rattle.ruby_value.specs.declared.message.Sent.{Sent}
-use Rattle.ctl_face.specs.ActsFit.{ActsFit, IsRouted}
-use Rattle.ctl_face.specs.Ctl.{Ctl, InboxMessage}
-use Rattle.ctl_face.specs.Fits.{Fits, FitsMessage, IsLawful, ScanFits, last_cycle}
-use Rattle.ctl_face.specs.IsMachine.{IsMachine}
-use Rattle.ctl_face.specs.LocalView.{Actor, LocalView}
-use Rattle.ctl_face.specs.RoutesFit.{HasRoutes}
-use Rattle.ctl_face.specs.ScanView.{scan_view}
+use Rattle.ctl_face.specs.Prelude.{ActsFit, IsRouted, Ctl, InboxMessage, Fits, FitsMessage, IsLawful, ScanFits, last_cycle, IsMachine, Actor, LocalView, HasRoutes, scan_view}
 use Rattle.ctl_face.proofs.Cases.{Good}
 use Rattle.ctl_face.proofs.Moved.{OwnBelow}
 

@@ -5,8 +5,7 @@ use Rattle.std.proofs.lemmas.List.Elements.{All-nil, All-cons, All-head, All-tai
 use Rattle.std.specs.Map.{lookup, remove_entry, set_value}
 use Rattle.ruby_value.specs.declared.kind.Kind.{Kind}
 use Rattle.ruby_value.specs.declared.value.Value.{Value}
-use Rattle.ruby_value.specs.HasKinds.{has_kinds}
-use Rattle.ruby_value.specs.HasKind.{has_kind}
+use Rattle.ruby_value.specs.Prelude.{has_kinds, has_kind}
 
 module _ {X : Type 0} (P : ℕ × X → Type 0) where
   pub All-removed : (test : ℕ → Bool) (xs : List (ℕ × X)) → All P xs → All P (remove_entry test xs)

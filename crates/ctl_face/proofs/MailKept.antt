@@ -5,22 +5,9 @@ use Rattle.ruby_value.specs.declared.fault.Fault.TheVariants.{Front, Latency}
 use Rattle.ruby_value.specs.declared.message.Message.{Message}
 use Rattle.ruby_value.specs.declared.message.MsgNo.{MsgNo}
 use Rattle.ruby_value.specs.declared.setup.BufferSetup.{BufferSetup}
-use Rattle.ruby_value.specs.NumberBefore.{same_number}
-use Rattle.ctl_face.specs.Acts.{Acts}
-use Rattle.ctl_face.specs.Again.{again}
-use Rattle.ctl_face.specs.AtFront.{at_front, after_front}
-use Rattle.ctl_face.specs.Ctl.{InboxMessage, Mail}
-use Rattle.ctl_face.specs.Fits.{FitsMail, FitsMessage, NumbersAscend, ScanFits}
-use Rattle.ruby_value.specs.Lines.{IsLine}
-use Rattle.ctl_face.specs.Inbox.{with_message, without_message}
-use Rattle.ctl_face.specs.Latency.{is_latency}
-use Rattle.ctl_face.specs.LocalView.{LocalView}
-use Rattle.ctl_face.specs.Mailing.{mail_with_arrival, incoming_message, mail_with_mark}
-use Rattle.ctl_face.specs.Pop.{mail_without, pop}
-use Rattle.ctl_face.specs.Ready.{front_now}
-use Rattle.ctl_face.specs.Recycle.{message_arriving_again, mail_with_recycled, recycle}
-use Rattle.ctl_face.specs.Stall.{mail_with_waiting, stall, message_waiting_under}
-use Rattle.ctl_face.specs.Wake.{is_under, message_waiting_no_longer, wake, wake_all, woken_mail, with_woken}
+use Rattle.ruby_value.specs.Prelude.{same_number, IsLine}
+use Rattle.ctl_face.specs.Prelude.{Acts, again, at_front, after_front, InboxMessage, Mail, FitsMail, FitsMessage, NumbersAscend, ScanFits, without_message, is_latency, LocalView, mail_with_arrival, incoming_message, mail_with_mark, mail_without, pop, front_now, message_arriving_again, mail_with_recycled, recycle, mail_with_waiting, stall, message_waiting_under, is_under, message_waiting_no_longer, wake, wake_all, woken_mail, with_woken}
+use Rattle.ctl_face.specs.Inbox.{with_message}
 use Rattle.ctl_face.proofs.Cases.{Good, good_ok, good_err}
 use Rattle.ctl_face.proofs.Inboxes.{ascend-with, all-with, ascend-without, all-without, ascend-map, all-map}
 use Rattle.ctl_face.proofs.Marks.{IsStrictlyIncreasing-with_mark}

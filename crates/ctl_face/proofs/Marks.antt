@@ -4,7 +4,7 @@ use Rattle.std.proofs.lemmas.Bool.{ltb-true}
 use Rattle.std.proofs.lemmas.List.Kept.{AllPairs-from_increasing, AllPairs-filter}
 use Rattle.std.specs.Bool.{nat_lt}
 use Rattle.std.specs.List.Sorted.{IsStrictlyIncreasing}
-use Rattle.ruby_value.specs.Ascending.{with_mark, marks_from}
+use Rattle.ruby_value.specs.Prelude.{with_mark, marks_from}
 use Rattle.ruby_value.proofs.Ordered.{AllPairs-insert, increasing_from_AllPairs}
 
 pub IsStrictlyIncreasing-with_mark : (marks : List ℕ) (cycle : ℕ) → IsStrictlyIncreasing marks → IsStrictlyIncreasing (with_mark marks cycle)

@@ -16,20 +16,12 @@ use Rattle.ruby_value.specs.declared.setup.BufferPlace.TheVariants as place
 use Rattle.ruby_value.specs.declared.setup.BufferSetup.{BufferSetup}
 use Rattle.ruby_value.specs.declared.setup.MachineSetup.{MachineSetup}
 use Rattle.ruby_value.specs.declared.value.Value.{Value}
-use Rattle.ruby_value.specs.NumberBefore.{number_before, same_number}
-use Rattle.ruby_value.proofs.Contained.{Contains-cons_cases as head_or_rest}
+use Rattle.ruby_value.specs.Prelude.{number_before, same_number}
+use Rattle.ruby_value.proofs.Contained.{Contains-cons_cases}
 use Rattle.ruby_value.proofs.Ordered.{AllPairs-head, AllPairs-tail}
 use Rattle.ruby_value.specs.declared.message.Delivery.{Delivery}
-use Rattle.ctl_face.specs.ActsFit.{numbers_in}
-use Rattle.ctl_face.specs.Ctl.{InboxMessage, Mail}
-use Rattle.ctl_face.specs.Enqueue.{for_others}
-use Rattle.ctl_face.specs.Fits.{NumbersAscend}
-use Rattle.ctl_face.specs.Inbox.{with_message, without_message}
-use Rattle.ctl_face.specs.Latency.{is_latency}
-use Rattle.ctl_face.specs.LocalView.{Actor}
-use Rattle.ctl_face.specs.Mailing.{incoming_message, mail_with_delivery}
-use Rattle.ctl_face.specs.Routing.{receiving_buffer}
-use Rattle.ctl_face.specs.Send.{Sending, copy_limit, local_arrival, local_copy, mail_with_copy, network_arrival, next_copy, no_copies, receivers_of, send, sending_from, sending_on, with_network_copy}
+use Rattle.ctl_face.specs.Prelude.{numbers_in, InboxMessage, Mail, for_others, NumbersAscend, without_message, is_latency, Actor, incoming_message, mail_with_delivery, receiving_buffer, Sending, copy_limit, local_arrival, local_copy, mail_with_copy, network_arrival, next_copy, no_copies, receivers_of, send, sending_from, sending_on, with_network_copy}
+use Rattle.ctl_face.specs.Inbox.{with_message}
 use Rattle.ctl_face.proofs.Cases.{Good, good_ok, good_unless}
 use Rattle.ctl_face.proofs.Held.{nothing-there}
 use Rattle.ctl_face.proofs.Inboxes.{Before, KeepsNumber, all-with}
@@ -99,7 +91,7 @@ module _ (f : MsgNo → Bool) where
             let apart_all = All-weaker (Before o) (λ (x : InboxMessage). same_number x.message.number n ≡ false) (λ x before. subst (λ (k : MsgNo). same_number x.message.number k ≡ false) same (not-same o.message.number x.message.number before)) inbox later in
             held-cons o inbox ∙ ap (λ (k : MsgNo). one k + held inbox) same ∙ ap (λ (xs : List InboxMessage). one n + held xs) (sym (none-dropped n inbox apart_all))
         | false ↦ λ is.
-            let there : Contains inbox m = ⊎_elim (λ same. let so : same_number n n ≡ false = subst (λ (x : InboxMessage). same_number x.message.number n ≡ false) same is in absurd (cc (so, same-refl n))) (λ rest. rest) (head_or_rest o m inbox has) in
+            let there : Contains inbox m = ⊎_elim (λ same. let so : same_number n n ≡ false = subst (λ (x : InboxMessage). same_number x.message.number n ≡ false) same is in absurd (cc (so, same-refl n))) (λ rest. rest) (Contains-cons_cases o m inbox has) in
             let rest = taken inbox m (AllPairs-tail Before o inbox ascends) there in
             let here = held-cons o inbox in
             let kept = held-cons o (without_message inbox n) in

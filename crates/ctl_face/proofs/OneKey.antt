@@ -5,14 +5,11 @@ use Rattle.std.specs.FinMap as finite
 use Rattle.std.proofs.lemmas.Bool.{and_from, or_left, or_right}
 use Rattle.std.proofs.lemmas.Bool.Decides.{nat_tests}
 use Rattle.std.proofs.lemmas.List.Elements.{Contains-append_cases, Contains-append_left, Contains-append_right}
-use Rattle.ctl_face.specs.Ctl.{InboxMessage}
+use Rattle.ctl_face.specs.Prelude.{InboxMessage, changed_message, without_message, LocalView, set_state, state}
 use Rattle.ruby_value.specs.declared.message.MsgNo.{MsgNo}
-use Rattle.ruby_value.specs.Ascending.{has_mark, with_mark, marks_from}
-use Rattle.ruby_value.specs.NumberBefore.{number_before, same_number}
-use Rattle.ctl_face.specs.Inbox.{changed_message, with_message, without_message}
-use Rattle.ctl_face.specs.LocalView.{LocalView}
-use Rattle.ctl_face.specs.State.{set_state, state}
-use Rattle.ruby_value.proofs.Contained.{Contains-cons_cases as head_or_rest}
+use Rattle.ruby_value.specs.Prelude.{has_mark, with_mark, marks_from, number_before, same_number}
+use Rattle.ctl_face.specs.Inbox.{with_message}
+use Rattle.ruby_value.proofs.Contained.{Contains-cons_cases}
 use Rattle.ctl_face.proofs.Held.{nothing-there, at-head, in-rest, in-filter, from-filter, from-map, to-map}
 
 module _ {X : Type 0} (p q : X → Bool) (x : X) (xs : List X) where
@@ -20,7 +17,7 @@ module _ {X : Type 0} (p q : X → Bool) (x : X) (xs : List X) where
   put-to y has =
       ⊎_elim
       (λ low. let so = from-filter p xs y low in inr (so.0, inl so.1))
-      (λ there. ⊎_elim inl (λ high. let so = from-filter q xs y high in inr (so.0, inr so.1)) (head_or_rest x y (filter q xs) there))
+      (λ there. ⊎_elim inl (λ high. let so = from-filter q xs y high in inr (so.0, inr so.1)) (Contains-cons_cases x y (filter q xs) there))
       (Contains-append_cases (filter p xs) (x ∷ filter q xs) y has)
 
   put-new : (y : X) → x ≡ y → Contains (filter p xs ++ x ∷ filter q xs) y
@@ -42,7 +39,7 @@ has-from (m ∷ marks) cycle has =
     ⊎_elim
     (λ same. or_left (m == cycle) (has_mark marks cycle) (eq-eqb m cycle same))
     (λ there. or_right (m == cycle) (has_mark marks cycle) (has-from marks cycle there))
-    (head_or_rest m cycle marks has)
+    (Contains-cons_cases m cycle marks has)
 
 has-by : (m cycle : ℕ) (marks : List ℕ) (b : Bool) → (m == cycle) ≡ b → IsTrue (b || has_mark marks cycle) → (IsTrue (has_mark marks cycle) → Contains marks cycle) → Contains (m ∷ marks) cycle
 has-by m cycle marks true is has rest = (0, omega arith, eqb-true m cycle is)

@@ -13,14 +13,8 @@ use Rattle.ruby_value.specs.declared.setup.MachineSetup.{MachineSetup}
 use Rattle.ruby_value.specs.declared.setup.TableSetup.{TableSetup}
 use Rattle.ruby_value.specs.declared.setup.TableSize.{TableSize}
 use Rattle.ruby_value.specs.declared.setup.TableSize.TheVariants as size
-use Rattle.ctl_face.specs.Ctl.{InboxMessage}
-use Rattle.ctl_face.specs.Fits.{Fits, FitsLine, FitsLines, FitsMessage, FitsSequencer, FitsTableAt, IsOfSize}
-use Rattle.ruby_value.specs.Lines.{IsLine}
-use Rattle.ruby_value.specs.Requests.{IsRequest}
-use Rattle.ruby_value.specs.HasKinds.{has_kinds}
-use Rattle.ruby_value.specs.NumberBefore.{number_before}
-use Rattle.ctl_face.specs.IsMachine.{HasPlaces, IsMachine, IsTableSetup, network_count}
-use Rattle.ctl_face.specs.Opening.{opening_table, no_requests, opening_ctl}
+use Rattle.ctl_face.specs.Prelude.{InboxMessage, Fits, FitsLine, FitsLines, FitsMessage, FitsSequencer, FitsTableAt, IsOfSize, HasPlaces, IsMachine, IsTableSetup, network_count, opening_table, no_requests, opening_ctl}
+use Rattle.ruby_value.specs.Prelude.{IsLine, IsRequest, has_kinds, number_before}
 use Rattle.ctl_face.proofs.Callbacks.{Outstanding}
 
 none_kept : {X : Type 0} (P : ℕ → X → Type 0) (line : ℕ) → IfSome (get (empty {X = X} {R = nat_cmp}) line) (P line)

@@ -4,9 +4,7 @@ use Rattle.std.proofs.Common.{◌≡◌, ◌↔◌, ℕ, Bool, List, All, IsTrue
 use Rattle.std.specs.Option.{option_and_then, option_flatten}
 use Rattle.ruby_value.specs.declared.setup.MachineSetup.{MachineSetup}
 use Rattle.ctl_face.specs.declared.routes.Routes.{Routes}
-use Rattle.ctl_face.specs.InRun.{IsController}
-use Rattle.ctl_face.specs.LocalView.{Actor}
-use Rattle.ctl_face.specs.RoutesFit.{AreFrom, HasRoutes, IsFrom, KeepsOrder, NamesBuffers, ReceivesFrom}
+use Rattle.ctl_face.specs.Prelude.{IsController, Actor, AreFrom, HasRoutes, IsFrom, KeepsOrder, NamesBuffers, ReceivesFrom}
 use Rattle.ctl_face.proofs.Lines.{All-found}
 
 pub own_from : (machine : MachineSetup) (routes : Routes) (me : ℕ) (buffers : List (Option ℕ)) → slice_get routes.receiving me ≡ Some buffers → (b : Bool) → (IsTrue b ↔ AreFrom machine buffers) → IsTrue b ↔ ReceivesFrom machine me routes

@@ -11,21 +11,8 @@ use Rattle.ruby_value.specs.declared.value.Ref.{Ref}
 use Rattle.ruby_value.specs.declared.value.Value.{Value}
 use Rattle.ruby_value.specs.declared.setup.BufferSetup.{BufferSetup}
 use Rattle.ruby_value.specs.declared.setup.TableSetup.{TableSetup}
-use Rattle.ctl_face.specs.FieldsIn.{fields_in}
-use Rattle.ruby_value.specs.Cache.{Line}
-use Rattle.ruby_value.specs.SetOf.{set_of}
-use Rattle.ctl_face.specs.Avail.{avail, least_used_in, probe}
-use Rattle.ctl_face.specs.Fits.{FitsLine, FitsMessage, FitsTableAt, ScanFits}
-use Rattle.ruby_value.specs.Lines.{IsLine}
-use Rattle.ctl_face.specs.Front.{IsFront}
-use Rattle.ctl_face.specs.Get.{get, fields_behind}
-use Rattle.ruby_value.specs.HasKinds.{has_kinds}
-use Rattle.ruby_value.specs.HasKind.{has_kind}
-use Rattle.ctl_face.specs.LocalView.{LocalView}
-use Rattle.ctl_face.specs.Mailing.{incoming_message}
-use Rattle.ctl_face.specs.Ready.{required_front, front_now}
-use Rattle.ctl_face.specs.Served.{TakesField, TakesMessage}
-use Rattle.ctl_face.specs.Table.{Table, CacheTable, DirectoryTable, TbeTable, ParameterTable}
+use Rattle.ctl_face.specs.Prelude.{fields_in, avail, least_used_in, probe, FitsLine, FitsMessage, FitsTableAt, ScanFits, IsFront, get, fields_behind, LocalView, incoming_message, required_front, front_now, TakesField, TakesMessage, Table, CacheTable, DirectoryTable, TbeTable, ParameterTable}
+use Rattle.ruby_value.specs.Prelude.{Line, set_of, IsLine, has_kinds, has_kind}
 use Rattle.ctl_face.proofs.Fronts.{front_first}
 use Rattle.ctl_face.proofs.Lines.{All-at}
 use Rattle.ctl_face.proofs.TableCalls.{kinds_in}

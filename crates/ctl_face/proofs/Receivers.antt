@@ -8,22 +8,11 @@ use Rattle.ruby_value.specs.declared.setup.BufferPlace.TheVariants as place
 use Rattle.ruby_value.specs.declared.setup.BufferSetup.{BufferSetup}
 use Rattle.ruby_value.specs.declared.setup.MachineSetup.{MachineSetup}
 use Rattle.ruby_value.specs.declared.value.Value.{Value}
-use Rattle.ruby_value.specs.HasKinds.{has_kinds}
+use Rattle.ruby_value.specs.Prelude.{has_kinds, network_of}
 use Rattle.ruby_value.specs.declared.message.Delivery.{Delivery}
 use Rattle.ruby_value.specs.declared.message.Message.{Message}
-use Rattle.ctl_face.specs.ActsFit.{IsRouted}
-use Rattle.ctl_face.specs.Ctl.{Mail}
-use Rattle.ctl_face.specs.FitsReceiver.{FitsReceiver, SendsFit}
-use Rattle.ctl_face.specs.InRun.{IsController, IsInRun}
-use Rattle.ctl_face.specs.IsMachine.{AgreeOnType}
-use Rattle.ruby_value.specs.NetworkOf.{network_of}
-use Rattle.ctl_face.specs.LocalView.{Actor, LocalView}
-use Rattle.ctl_face.specs.OfMachine.{TakesFields}
+use Rattle.ctl_face.specs.Prelude.{IsRouted, Mail, FitsReceiver, SendsFit, IsController, IsInRun, AgreeOnType, Actor, LocalView, TakesFields, AgreeOnTypes, AreNumbered, IsFrom, ReceivesFrom, NobodyElseReceives, RoutesFit, IsOfMachine, receiving_buffer, Sending, receivers_of, IsNetworkCopy, IsOwnCopy, SendAdds}
 use Rattle.ctl_face.specs.declared.routes.Routes.{Routes}
-use Rattle.ctl_face.specs.RoutesFit.{AgreeOnTypes, AreNumbered, IsFrom, ReceivesFrom, NobodyElseReceives, RoutesFit, IsOfMachine}
-use Rattle.ctl_face.specs.Routing.{receiving_buffer}
-use Rattle.ctl_face.specs.Send.{Sending, receivers_of}
-use Rattle.ctl_face.specs.SendAdds.{IsNetworkCopy, IsOwnCopy, SendAdds}
 use Rattle.ctl_face.proofs.Lines.{All-found}
 use Rattle.ctl_face.proofs.Routed.{SentOn, sent_on}
 use Rattle.ctl_face.proofs.Sendings.{other_takes}

@@ -11,12 +11,9 @@ use Rattle.ruby_value.specs.declared.setup.BufferPlace.{BufferPlace}
 use Rattle.ruby_value.specs.declared.setup.BufferPlace.TheVariants as place
 use Rattle.ruby_value.specs.declared.setup.BufferSetup.{BufferSetup}
 use Rattle.ruby_value.specs.declared.setup.MachineSetup.{MachineSetup}
-use Rattle.ruby_value.specs.HasKinds.{has_kinds}
-use Rattle.ruby_value.specs.NetworkOf.{network_of}
-use Rattle.ctl_face.specs.ActsFit.{IsRouted, is_buffer, is_sent_on, reaches}
+use Rattle.ruby_value.specs.Prelude.{has_kinds, network_of}
+use Rattle.ctl_face.specs.Prelude.{IsRouted, is_buffer, is_sent_on, reaches, receiving_buffer, receivers_of}
 use Rattle.ctl_face.specs.declared.routes.Routes.{Routes}
-use Rattle.ctl_face.specs.Routing.{receiving_buffer}
-use Rattle.ctl_face.specs.Send.{receivers_of}
 
 both : (a b : Bool) → a ≡ true → b ≡ true → (a && b) ≡ true
 both true b first second = second

@@ -14,18 +14,11 @@ use Rattle.ruby_value.specs.declared.setup.BufferSetup.{BufferSetup}
 use Rattle.ruby_value.specs.declared.setup.MachineSetup.{MachineSetup}
 use Rattle.ruby_value.specs.declared.value.Value.{Value}
 use Rattle.ruby_value.specs.declared.message.Delivery.{Delivery}
-use Rattle.ctl_face.specs.Ctl.{Mail}
-use Rattle.ctl_face.specs.Lasts.{Lasts, last_at, lasts_on, with_last}
-use Rattle.ctl_face.specs.Latency.{is_latency}
-use Rattle.ctl_face.specs.LocalView.{Actor}
-use Rattle.ctl_face.specs.Mailing.{mail_with_delivery}
-use Rattle.ctl_face.specs.Routing.{is_ordered, path_to, receiving_buffer}
-use Rattle.ctl_face.specs.Send.{Sending, copy_limit, has_jitter, local_arrival, local_copy, network_arrival, next_copy, no_copies, receivers_of, send, sending_from, sending_on, with_network_copy}
-use Rattle.ctl_face.specs.SendAdds.{AddsCopies, AllDiffer, IsNetworkCopy, IsOwnCopy, NetworkLasts, OwnLasts, SendAdds, arrival_after, mail_with_own}
-use Rattle.ruby_value.specs.NumbersFrom.{numbers_from}
+use Rattle.ctl_face.specs.Prelude.{Mail, Lasts, last_at, lasts_on, with_last, is_latency, Actor, mail_with_delivery, is_ordered, path_to, receiving_buffer, Sending, copy_limit, has_jitter, local_arrival, local_copy, network_arrival, next_copy, no_copies, receivers_of, send, sending_from, sending_on, with_network_copy, AddsCopies, AllDiffer, IsNetworkCopy, IsOwnCopy, NetworkLasts, OwnLasts, SendAdds, arrival_after, mail_with_own}
+use Rattle.ruby_value.specs.Prelude.{numbers_from}
 use Rattle.ctl_face.proofs.LastArrivals.{inbox_after, inserted_elsewhere, inserted_here, lasts_after, marks_after, no_lasts, no_less, not_moved}
 use Rattle.ctl_face.proofs.Cases.{Good, good_ok, good_err, good_cond}
-use Rattle.pcg_words.specs.Below.{below}
+use Rattle.pcg_words.specs.Prelude.{below}
 
 numbers_push : (sender count n : ℕ) → numbers_from sender count n ++ record { sender = sender; count = count + n } ∷ [] ≡ numbers_from sender count (n + 1)
 numbers_push sender count zero = let same : count + 0 ≡ count = omega arith in rw same refl

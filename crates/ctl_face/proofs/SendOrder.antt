@@ -7,13 +7,7 @@ use Rattle.ruby_value.specs.declared.setup.MachineSetup.{MachineSetup}
 use Rattle.ruby_value.proofs.Contained.{Contains-cons_cases}
 use Rattle.ruby_value.specs.declared.message.Delivery.{Delivery}
 use Rattle.ruby_value.specs.declared.message.Message.{Message}
-use Rattle.ctl_face.specs.Ctl.{Mail}
-use Rattle.ctl_face.specs.Lasts.{last_at, lasts_on}
-use Rattle.ctl_face.specs.LocalView.{Actor}
-use Rattle.ctl_face.specs.Routing.{is_ordered, path_to}
-use Rattle.ctl_face.specs.Send.{receivers_of}
-use Rattle.ctl_face.specs.SendAdds.{IsNetworkCopy, SendAdds, arrival_after, copies_to, jitter_of, latest}
-use Rattle.ctl_face.specs.SendOrder.{IsSentTo, SendsKeepOrder}
+use Rattle.ctl_face.specs.Prelude.{Mail, last_at, lasts_on, Actor, is_ordered, path_to, receivers_of, IsNetworkCopy, SendAdds, arrival_after, copies_to, jitter_of, latest, IsSentTo, SendsKeepOrder}
 use Rattle.ctl_face.proofs.SendAdds.{send_adds}
 
 latest_from : (cycle : ℕ) (copies : List (Delivery Message)) → cycle ≤ latest cycle copies

@@ -15,20 +15,8 @@ use Rattle.ruby_value.specs.declared.setup.BufferPlace.TheVariants as place
 use Rattle.ruby_value.specs.declared.setup.BufferSetup.{BufferSetup}
 use Rattle.ruby_value.specs.declared.setup.MachineSetup.{MachineSetup}
 use Rattle.ruby_value.specs.declared.value.Value.{Value}
-use Rattle.ruby_value.specs.HasKinds.{has_kinds}
-use Rattle.ctl_face.specs.Ctl.{InboxMessage, Mail}
-use Rattle.ctl_face.specs.Enqueue.{enqueue, after_sending}
-use Rattle.ctl_face.specs.Fits.{FitsMail, FitsMessage, ScanFits}
-use Rattle.ctl_face.specs.IsMachine.{AgreeOnType, IsMachine, network_count}
-use Rattle.ruby_value.specs.NetworkOf.{network_of}
-use Rattle.ctl_face.specs.Lasts.{Lasts, with_last}
-use Rattle.ctl_face.specs.Latency.{is_latency}
-use Rattle.ctl_face.specs.LocalView.{Actor, LocalView}
-use Rattle.ctl_face.specs.Mailing.{mail_with_delivery, incoming_message}
-use Rattle.ctl_face.specs.OfMachine.{TakesFields, message_kinds}
-use Rattle.ctl_face.specs.RoutesFit.{IsFrom, ReceivesFrom}
-use Rattle.ctl_face.specs.Routing.{receiving_buffer, is_ordered}
-use Rattle.ctl_face.specs.Send.{Sending, send, sending_from, sending_on, copy_limit, receivers_of, mail_with_copy, next_copy, no_copies, has_jitter, after_network_copy, network_arrival, with_network_copy, local_arrival, local_copy}
+use Rattle.ruby_value.specs.Prelude.{has_kinds, network_of}
+use Rattle.ctl_face.specs.Prelude.{InboxMessage, Mail, enqueue, after_sending, FitsMail, FitsMessage, ScanFits, AgreeOnType, IsMachine, network_count, Lasts, with_last, is_latency, Actor, LocalView, mail_with_delivery, incoming_message, TakesFields, message_kinds, IsFrom, ReceivesFrom, receiving_buffer, is_ordered, Sending, send, sending_from, sending_on, copy_limit, receivers_of, mail_with_copy, next_copy, no_copies, has_jitter, after_network_copy, network_arrival, with_network_copy, local_arrival, local_copy}
 use Rattle.ctl_face.proofs.Cases.{Good, good_ok, good_err, good_cond}
 use Rattle.ctl_face.proofs.FieldKinds.{same_kinds_take}
 use Rattle.ctl_face.proofs.Lines.{All-found}

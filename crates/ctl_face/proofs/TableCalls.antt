@@ -12,36 +12,14 @@ use Rattle.ruby_value.specs.declared.fault.Fault.TheVariants.{Absent, Full, Pres
 use Rattle.ruby_value.specs.declared.kind.Kind.{Kind}
 use Rattle.ruby_value.specs.declared.value.Ref.{Ref}
 use Rattle.ruby_value.specs.declared.value.Value.{Value}
-use Rattle.ruby_value.specs.Available.{available}
-use Rattle.ruby_value.specs.Cache.{Cache, Line}
-use Rattle.ruby_value.specs.Directory.{Directory}
-use Rattle.ruby_value.specs.FieldsOf.{fields_of}
-use Rattle.ruby_value.specs.IsCache.{IsCache}
-use Rattle.ruby_value.specs.MadeRecent.{made_recent}
-use Rattle.ruby_value.specs.SetOf.{set_of}
-use Rattle.ruby_value.specs.Tbes.{Tbes}
-use Rattle.ruby_value.specs.WithFields.{with_fields}
-use Rattle.ruby_value.specs.WithSet.{with_set}
-use Rattle.ruby_value.specs.WithoutLine.{without_line}
+use Rattle.ruby_value.specs.Prelude.{available, Cache, Line, Directory, fields_of, IsCache, made_recent, set_of, Tbes, with_fields, with_set, without_line, IsLine, has_kinds, has_kind}
 use Rattle.ruby_value.proofs.CacheEdits.{IsRead, cache_without, cache_recent, cache_with_fields, cache_push}
 use Rattle.ruby_value.proofs.CacheSets.{set_is}
 use Rattle.ruby_value.specs.declared.setup.TableSetup.{TableSetup}
 use Rattle.ruby_value.specs.declared.setup.TableSize.{TableSize}
 use Rattle.ruby_value.specs.declared.setup.TableSize.TheVariants as size
-use Rattle.ctl_face.specs.Allocate.{allocate, with_line}
-use Rattle.ctl_face.specs.Deallocate.{deallocate, without_line_in}
-use Rattle.ctl_face.specs.FieldsIn.{fields_in, with_fields_in}
-use Rattle.ctl_face.specs.Fits.{FitsLine, FitsLines, FitsTable, ScanFits, IsOfSize}
-use Rattle.ruby_value.specs.Lines.{IsLine}
-use Rattle.ruby_value.specs.HasKinds.{has_kinds}
-use Rattle.ruby_value.specs.HasKind.{has_kind}
-use Rattle.ctl_face.specs.LocalView.{LocalView}
-use Rattle.ctl_face.specs.OfMachine.{initial_fields, field_kinds}
-use Rattle.ctl_face.specs.Set.{table_with_field, set as set_field}
-use Rattle.ctl_face.specs.Table.{Table, CacheTable, DirectoryTable, TbeTable, ParameterTable}
-use Rattle.ctl_face.specs.Touch.{touch, used_line}
+use Rattle.ctl_face.specs.Prelude.{allocate, with_line, deallocate, without_line_in, fields_in, with_fields_in, FitsLine, FitsLines, FitsTable, ScanFits, IsOfSize, LocalView, initial_fields, field_kinds, table_with_field, set as set_field, Table, CacheTable, DirectoryTable, TbeTable, ParameterTable, touch, used_line, IsTableSetup}
 use Rattle.ctl_face.proofs.Cases.{Good, good_ok, good_err, good_cond}
-use Rattle.ctl_face.specs.IsMachine.{IsTableSetup}
 use Rattle.ctl_face.proofs.Lines.{All-found, All-removed, All-written, All-at, lookup_holds, has_kinds-set}
 use Rattle.ctl_face.proofs.Maps.{insert_keeps, remove_keeps}
 use Rattle.ctl_face.proofs.Tables.{changed_keeps}

@@ -2,10 +2,7 @@
 use Rattle.std.proofs.Common.{◌≡◌, ℕ, refl, sym, subst, Option, None, Some, Result, Ok, Err, slice_get}
 use Rattle.ruby_value.specs.declared.fault.Fault.{Fault}
 use Rattle.ruby_value.specs.declared.setup.TableSetup.{TableSetup}
-use Rattle.ctl_face.specs.Fits.{FitsTable, FitsTableAt, ScanFits}
-use Rattle.ctl_face.specs.LocalView.{LocalView}
-use Rattle.ctl_face.specs.Table.{Table}
-use Rattle.ctl_face.specs.Tables.{table_at, with_table, after_change, change_if_there, changed_table}
+use Rattle.ctl_face.specs.Prelude.{FitsTable, FitsTableAt, ScanFits, LocalView, Table, table_at, with_table, after_change, change_if_there, changed_table}
 use Rattle.ctl_face.proofs.Cases.{Good, good_ok, good_err}
 use Rattle.ctl_face.proofs.Lines.{holds_after_set}
 

@@ -12,7 +12,7 @@ use Rattle.ruby_value.specs.declared.setup.BufferPlace.{BufferPlace}
 use Rattle.ruby_value.specs.declared.setup.BufferPlace.TheVariants as place
 use Rattle.ruby_value.specs.declared.setup.BufferSetup.{BufferSetup}
 use Rattle.ruby_value.specs.declared.setup.MachineSetup.{MachineSetup}
-use Rattle.ruby_value.specs.HasKinds.{has_kinds}
+use Rattle.ruby_value.specs.Prelude.{has_kinds, numbers_from}
 use Rattle.ruby_value.specs.declared.message.Delivery.{Delivery}
 use Rattle.ruby_value.specs.declared.message.Message.{Message}
 use Rattle.ruby_value.specs.declared.message.Sent.{Sent}
@@ -22,7 +22,6 @@ use Rattle.ctl_face.specs.declared.routes.Routes.{Routes}
 use Rattle.ctl_face.specs.LocalView.{Actor, LocalView}
 use Rattle.ctl_face.specs.Routing.{receiving_buffer}
 use Rattle.ctl_face.specs.Send.{receivers_of}
-use Rattle.ruby_value.specs.NumbersFrom.{numbers_from}
 
 -- whether it is this buffer
 abbrev pub is_buffer : ℕ → Option ℕ → Bool

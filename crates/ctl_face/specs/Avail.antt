@@ -5,9 +5,7 @@ use Rattle.std.specs.Prelude.{ℕ, Bool, true, Option, None, Some, Result, Err, 
 use Rattle.std.specs.Option.{ok_or, option_map}
 use Rattle.ruby_value.specs.declared.fault.Fault.{Fault}
 use Rattle.ruby_value.specs.declared.fault.Fault.TheVariants.{Probe}
-use Rattle.ruby_value.specs.Available.{available}
-use Rattle.ruby_value.specs.Cache.{Line}
-use Rattle.ruby_value.specs.SetOf.{set_of}
+use Rattle.ruby_value.specs.Prelude.{available, Line, set_of}
 use Rattle.ctl_face.specs.LocalView.{LocalView}
 use Rattle.ctl_face.specs.Table.{Table, CacheTable}
 use Rattle.ctl_face.specs.Tables.{table_at}

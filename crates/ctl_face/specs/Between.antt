@@ -8,7 +8,7 @@ use Rattle.std.specs.Option.{option_and_then, option_map}
 use Rattle.ruby_value.specs.declared.asked.Answer.{Answer}
 use Rattle.ruby_value.specs.declared.asked.Asked.{Asked}
 use Rattle.ruby_value.specs.declared.message.Message.{Message}
-use Rattle.ruby_value.specs.Ascending.{marks_from}
+use Rattle.ruby_value.specs.Prelude.{marks_from}
 use Rattle.ruby_value.specs.Requests as requests
 use Rattle.ctl_face.specs.Ctl.{Ctl}
 use Rattle.ctl_face.specs.Mailing.{mail_with_mark, mail_with_message}

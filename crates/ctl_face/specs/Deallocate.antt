@@ -4,10 +4,7 @@ use Rattle.std.specs.Prelude.{ℕ, Result, Ok, Err, is_some, if◌then◌else◌
 use Rattle.std.specs.FinMap as map
 use Rattle.ruby_value.specs.declared.fault.Fault.{Fault}
 use Rattle.ruby_value.specs.declared.fault.Fault.TheVariants.{Absent}
-use Rattle.ruby_value.specs.FieldsOf.{fields_of}
-use Rattle.ruby_value.specs.SetOf.{set_of}
-use Rattle.ruby_value.specs.WithoutLine.{without_line}
-use Rattle.ruby_value.specs.WithSet.{with_set}
+use Rattle.ruby_value.specs.Prelude.{fields_of, set_of, without_line, with_set}
 use Rattle.ctl_face.specs.LocalView.{LocalView}
 use Rattle.ctl_face.specs.Table.{Table, CacheTable, TbeTable}
 use Rattle.ctl_face.specs.Tables.{changed_table}

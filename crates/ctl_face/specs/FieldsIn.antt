@@ -3,11 +3,7 @@
 use Rattle.std.specs.Prelude.{ℕ, Option, None, Some, List, ◌==◌, if◌then◌else◌}
 use Rattle.std.specs.FinMap as map
 use Rattle.ruby_value.specs.declared.value.Value.{Value}
-use Rattle.ruby_value.specs.FieldsAt.{fields_at}
-use Rattle.ruby_value.specs.FieldsOf.{fields_of}
-use Rattle.ruby_value.specs.SetOf.{set_of}
-use Rattle.ruby_value.specs.WithFields.{with_fields}
-use Rattle.ruby_value.specs.WithSet.{with_set}
+use Rattle.ruby_value.specs.Prelude.{fields_at, fields_of, set_of, with_fields, with_set}
 use Rattle.ctl_face.specs.Table.{Table, CacheTable, DirectoryTable, TbeTable, ParameterTable}
 
 abbrev pub fields_in : Table → ℕ → Option (List Value)

@@ -11,14 +11,9 @@ use Rattle.std.specs.List.{All, AllPairs}
 use Rattle.std.specs.List.Sorted.{IsStrictlyIncreasing}
 use Rattle.ruby_value.specs.declared.value.Value.{Value}
 use Rattle.ruby_value.specs.declared.kind.Kind.{Kind}
-use Rattle.ruby_value.specs.Cache.{Line}
-use Rattle.ruby_value.specs.IsCache.{IsCache}
+use Rattle.ruby_value.specs.Prelude.{Line, IsCache, IsLine, FitsRequests, Requests, has_kinds, number_before}
 use Rattle.ctl_face.specs.ActsFit.{ActsFit}
 use Rattle.ctl_face.specs.Ctl.{Ctl, InboxMessage, Mail}
-use Rattle.ruby_value.specs.Lines.{IsLine}
-use Rattle.ruby_value.specs.Requests.{FitsRequests, Requests}
-use Rattle.ruby_value.specs.HasKinds.{has_kinds}
-use Rattle.ruby_value.specs.NumberBefore.{number_before}
 use Rattle.ctl_face.specs.IsMachine.{IsMachine, network_count}
 use Rattle.ctl_face.specs.OfMachine.{TakesFields}
 use Rattle.ctl_face.specs.RoutesFit.{HasRoutes}

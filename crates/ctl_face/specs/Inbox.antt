@@ -3,8 +3,7 @@
 use Rattle.std.specs.Prelude.{List, not, map, if◌then◌else◌}
 use Rattle.std.specs.List.{filter}
 use Rattle.ruby_value.specs.declared.message.MsgNo.{MsgNo}
-use Rattle.ruby_value.specs.Inserted.{inserted}
-use Rattle.ruby_value.specs.NumberBefore.{number_before, same_number}
+use Rattle.ruby_value.specs.Prelude.{inserted, number_before, same_number}
 use Rattle.ctl_face.specs.Ctl.{InboxMessage}
 
 -- the inbox with a message that wasn't in it

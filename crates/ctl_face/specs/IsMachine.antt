@@ -17,10 +17,7 @@ use Rattle.ruby_value.specs.declared.setup.MachineSetup.{MachineSetup}
 use Rattle.ruby_value.specs.declared.setup.TableSetup.{TableSetup}
 use Rattle.ruby_value.specs.declared.setup.TableSize.TheVariants as size
 use Rattle.ruby_value.specs.declared.setup.TableSize.{TableSize}
-use Rattle.ruby_value.specs.HasKinds.{has_kinds}
-use Rattle.ruby_value.specs.IsReference.{is_reference}
-use Rattle.ruby_value.specs.NetworkOf.{network_of}
-use Rattle.ruby_value.specs.SameKinds.{same_kinds}
+use Rattle.ruby_value.specs.Prelude.{has_kinds, is_reference, network_of, same_kinds}
 
 -- how many lines a table may have place for
 abbrev pub HasPlaces : TableSize → Type 0

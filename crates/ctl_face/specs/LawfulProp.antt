@@ -4,10 +4,7 @@ use Rattle.std.specs.Coded.{Coded, coded_ℕ}
 use Rattle.std.specs.FinMap as map
 use Rattle.std.specs.Ordering.{nat_cmp}
 use Rattle.std.proofs.Props.{props}
-use Rattle.ruby_value.specs.AreLinesOf.{AreLinesOf}
-use Rattle.ruby_value.specs.Cache.{Cache, Line}
-use Rattle.ruby_value.specs.HasLawfulSets.{HasLawfulSets}
-use Rattle.ruby_value.specs.Requests.{Requests}
+use Rattle.ruby_value.specs.Prelude.{AreLinesOf, Cache, Line, HasLawfulSets, Requests}
 use Rattle.ruby_value.specs.contracts.value.Value as value
 use Rattle.ruby_value.specs.declared.kind.Kind.{Kind}
 use Rattle.ruby_value.specs.declared.setup.BufferPlace.TheVariants as place

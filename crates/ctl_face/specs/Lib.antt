@@ -46,3 +46,4 @@ pub mod Tables
 pub mod Touch
 pub mod Wake
 pub mod LawfulProp
+pub mod Prelude

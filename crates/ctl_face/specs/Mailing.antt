@@ -2,7 +2,7 @@
 -- message that arrives is both, with a mark for its arrival. That each arrival sets a mark is this project's own rule.
 use Rattle.std.specs.Prelude.{ℕ, Bool, true, false, None}
 use Rattle.ruby_value.specs.declared.message.Message.{Message}
-use Rattle.ruby_value.specs.Ascending.{with_mark}
+use Rattle.ruby_value.specs.Prelude.{with_mark}
 use Rattle.ctl_face.specs.Ctl.{InboxMessage, Mail}
 use Rattle.ctl_face.specs.Inbox.{with_message}
 

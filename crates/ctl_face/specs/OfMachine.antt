@@ -9,7 +9,7 @@ use Rattle.ruby_value.specs.declared.setup.MachineSetup.{MachineSetup}
 use Rattle.ruby_value.specs.declared.setup.TableSetup.{TableSetup}
 use Rattle.ruby_value.specs.declared.setup.TableSize.{TableSize}
 use Rattle.ruby_value.specs.declared.value.Value.{Value}
-use Rattle.ruby_value.specs.HasKinds.{has_kinds}
+use Rattle.ruby_value.specs.Prelude.{has_kinds}
 
 abbrev pub table_size : MachineSetup → ℕ → Option TableSize
 table_size machine table = option_map (λ (s : TableSetup). s.size) (slice_get machine.tables table)

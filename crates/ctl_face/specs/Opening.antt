@@ -8,7 +8,7 @@ use Rattle.ruby_value.specs.declared.setup.TableSetup.{TableSetup}
 use Rattle.ruby_value.specs.declared.setup.TableSize.TheVariants as size
 use Rattle.ruby_value.specs.declared.setup.TableSize.{TableSize}
 use Rattle.ctl_face.specs.Ctl.{Ctl, Mail}
-use Rattle.ruby_value.specs.Requests.{Requests}
+use Rattle.ruby_value.specs.Prelude.{Requests}
 use Rattle.ctl_face.specs.IsMachine.{network_count}
 use Rattle.ctl_face.specs.Table.{Table, CacheTable, DirectoryTable, TbeTable, ParameterTable}
 

@@ -6,7 +6,7 @@ use Rattle.ruby_value.specs.declared.fault.Fault.TheVariants.{Latency}
 use Rattle.ruby_value.specs.declared.fault.Fault.{Fault}
 use Rattle.ruby_value.specs.declared.message.Message.{Message}
 use Rattle.ruby_value.specs.declared.message.MsgNo.{MsgNo}
-use Rattle.ruby_value.specs.Ascending.{with_mark}
+use Rattle.ruby_value.specs.Prelude.{with_mark}
 use Rattle.ctl_face.specs.AtFront.{AtFront, at_front, after_front}
 use Rattle.ctl_face.specs.Ctl.{InboxMessage, Mail}
 use Rattle.ctl_face.specs.Front.{front}

@@ -15,7 +15,7 @@ use Rattle.ruby_value.specs.declared.setup.BufferSetup.{BufferSetup}
 use Rattle.ruby_value.specs.declared.setup.MachineSetup.{MachineSetup}
 use Rattle.ctl_face.specs.declared.routes.Routes.{Routes}
 use Rattle.ctl_face.specs.IsMachine.{AgreeOnType, network_count}
-use Rattle.ruby_value.specs.NetworkOf.{network_of}
+use Rattle.ruby_value.specs.Prelude.{network_of}
 use Rattle.ctl_face.specs.OfMachine.{buffer_place}
 use Rattle.ctl_face.specs.Routing.{is_ordered, path_to, receiving_buffer}
 

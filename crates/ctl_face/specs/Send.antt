@@ -22,7 +22,7 @@ use Rattle.ctl_face.specs.Latency.{is_latency}
 use Rattle.ctl_face.specs.LocalView.{Actor}
 use Rattle.ctl_face.specs.Mailing.{mail_with_delivery}
 use Rattle.ctl_face.specs.Routing.{receiving_buffer, path_to, is_ordered}
-use Rattle.pcg_words.specs.Below.{below}
+use Rattle.pcg_words.specs.Prelude.{below}
 
 -- the sender's mail after some copies, and these copies in the order of their numbers
 pub record Sending : Type 0 where

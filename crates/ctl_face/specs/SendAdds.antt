@@ -12,14 +12,14 @@ use Rattle.ruby_value.specs.declared.setup.BufferPlace.{BufferPlace}
 use Rattle.ruby_value.specs.declared.value.Value.{Value}
 use Rattle.ruby_value.specs.declared.message.Delivery.{Delivery}
 use Rattle.ruby_value.specs.declared.message.Message.{Message}
-use Rattle.ruby_value.specs.NumbersFrom.{numbers_from}
+use Rattle.ruby_value.specs.Prelude.{numbers_from}
 use Rattle.ctl_face.specs.Ctl.{Mail}
 use Rattle.ctl_face.specs.Lasts.{last_at, lasts_on}
 use Rattle.ctl_face.specs.LocalView.{Actor}
 use Rattle.ctl_face.specs.Mailing.{mail_with_arrival}
 use Rattle.ctl_face.specs.Routing.{is_ordered, path_to, receiving_buffer}
 use Rattle.ctl_face.specs.Send.{Sending, has_jitter, receivers_of}
-use Rattle.pcg_words.specs.Below.{below}
+use Rattle.pcg_words.specs.Prelude.{below}
 
 -- when a copy arrives that is due at this cycle: where order is kept, not before the last one
 abbrev pub arrival_after : (ordered : Bool) (due last : ℕ) → ℕ

@@ -9,8 +9,7 @@ use Rattle.ruby_value.specs.declared.setup.BufferPlace.TheVariants as place
 use Rattle.ruby_value.specs.declared.setup.BufferPlace.{BufferPlace}
 use Rattle.ruby_value.specs.declared.setup.TableSize.TheVariants as size
 use Rattle.ruby_value.specs.declared.setup.TableSize.{TableSize}
-use Rattle.ruby_value.specs.HasKind.{has_kind}
-use Rattle.ruby_value.specs.HasKinds.{has_kinds}
+use Rattle.ruby_value.specs.Prelude.{has_kind, has_kinds}
 use Rattle.ctl_face.specs.LocalView.{LocalView}
 use Rattle.ctl_face.specs.OfMachine.{buffer_place, field_kinds, message_kinds, table_size}
 

@@ -4,9 +4,7 @@
 -- The sorts of tables are those of SLICC in gem5; that parameters are read like a table is this project's own.
 use Rattle.std.specs.Prelude.{List}
 use Rattle.ruby_value.specs.declared.value.Value.{Value}
-use Rattle.ruby_value.specs.Cache.{Cache}
-use Rattle.ruby_value.specs.Directory.{Directory}
-use Rattle.ruby_value.specs.Tbes.{Tbes}
+use Rattle.ruby_value.specs.Prelude.{Cache, Directory, Tbes}
 
 pub data Table : Type 0 where
   CacheTable : Cache → Table

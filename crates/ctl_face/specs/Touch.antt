@@ -3,10 +3,7 @@
 use Rattle.std.specs.Prelude.{ℕ, Result, Ok, Err, is_some, if◌then◌else◌}
 use Rattle.ruby_value.specs.declared.fault.Fault.{Fault}
 use Rattle.ruby_value.specs.declared.fault.Fault.TheVariants.{Absent}
-use Rattle.ruby_value.specs.FieldsOf.{fields_of}
-use Rattle.ruby_value.specs.MadeRecent.{made_recent}
-use Rattle.ruby_value.specs.SetOf.{set_of}
-use Rattle.ruby_value.specs.WithSet.{with_set}
+use Rattle.ruby_value.specs.Prelude.{fields_of, made_recent, set_of, with_set}
 use Rattle.ctl_face.specs.LocalView.{LocalView}
 use Rattle.ctl_face.specs.Table.{Table, CacheTable}
 use Rattle.ctl_face.specs.Tables.{changed_table}

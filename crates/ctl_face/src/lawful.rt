@@ -2,9 +2,8 @@
 // the tests takes memory.
 ghost use Rattle.std.specs.Prelude.{◌≡◌, ◌↔◌, ◌≤◌, IsTrue, IfSome, Some, slice_get};
 ghost use Rattle.std.specs.List.{All};
-ghost use Rattle.ctl_face.specs.IsMachine.{AgreeOnType, ArePlain, ParametersAreLast, HasPlaces, IsBufferSetup, IsMachine, IsTableSetup, SameReceivers, ShareTypes, is_parameters as is_parameters_of, receivers_field as receivers_field_of};
-ghost use Rattle.ruby_value.specs.NetworkOf.{network_of as network_of_place};
-ghost use Rattle.ctl_face.specs.RoutesFit.{AreFrom, AreWithinLimits, HasRoutes, IsFrom, IsNamed, KeepsOrder, NamesBuffers, ReceivesFrom, longest_path};
+ghost use Rattle.ctl_face.specs.Prelude.{AgreeOnType, ArePlain, ParametersAreLast, HasPlaces, IsBufferSetup, IsMachine, IsTableSetup, SameReceivers, ShareTypes, is_parameters, receivers_field, AreFrom, AreWithinLimits, HasRoutes, IsFrom, IsNamed, KeepsOrder, NamesBuffers, ReceivesFrom, longest_path};
+ghost use Rattle.ruby_value.specs.Prelude.{network_of};
 
 use crate::Routes;
 use crate::serving::place_of;
@@ -39,7 +38,7 @@ fn is_table(s: &TableSetup) -> bool
 }
 
 fn is_parameters(size: TableSize) -> bool
-    ensures { result ≡ is_parameters_of size }
+    ensures { result ≡ is_parameters size }
 {
     matches!(size, TableSize::Parameters)
 }
@@ -58,7 +57,7 @@ fn end_in_parameters(tables: &[TableSetup]) -> bool
 
 // The virtual network that the buffer is on.
 fn network_of(place: BufferPlace) -> Option<u16>
-    ensures { result ≡ network_of_place place }
+    ensures { result ≡ network_of place }
 {
     match place {
         BufferPlace::Local => None,
@@ -68,7 +67,7 @@ fn network_of(place: BufferPlace) -> Option<u16>
 
 // The field that names the receivers of the buffer's messages.
 fn receivers_field(place: BufferPlace) -> Option<u16>
-    ensures { result ≡ receivers_field_of place }
+    ensures { result ≡ receivers_field place }
 {
     match place {
         BufferPlace::To { destination, .. } => destination,
@@ -78,7 +77,7 @@ fn receivers_field(place: BufferPlace) -> Option<u16>
 
 fn names_receivers(s: &BufferSetup) -> bool
     ensures { IsTrue result
-        ↔ IfSome (receivers_field_of s.now.place)
+        ↔ IfSome (receivers_field s.now.place)
         (λ field. slice_get s.now.kinds field ≡ Some Kind.Dest) }
 {
     match receivers_field(s.place) {

@@ -8,7 +8,7 @@ ghost use Rattle.ctl_face.specs.Deallocate.{deallocate};
 ghost use Rattle.ctl_face.specs.Does.{Does, DoesWith, Reads};
 ghost use Rattle.ctl_face.specs.Enqueue.{enqueue};
 ghost use Rattle.ctl_face.specs.Fits.{IsLawful};
-ghost use Rattle.ruby_value.specs.Lines.{IsLine};
+ghost use Rattle.ruby_value.specs.Prelude.{IsLine};
 ghost use Rattle.ctl_face.specs.Free.{free};
 ghost use Rattle.ctl_face.specs.Get.{get};
 ghost use Rattle.ctl_face.specs.LocalView.{LocalView};

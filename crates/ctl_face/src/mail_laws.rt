@@ -2,32 +2,22 @@
 // contracts are the laws.
 ghost use Rattle.std.specs.Prelude.{◌≡◌, ◌≢◌, ◌<◌, ◌≤◌, ◌⊎◌, ◌↔◌, ◌==◌, ℕ, ℤ, List, Ok, Some, IsTrue, Contains, nat_abs, slice_get, if◌then◌else◌};
 ghost use Rattle.std.specs.List.{All};
-ghost use Rattle.ruby_value.specs.declared.message.MsgNo.{MsgNo as MsgNoRecord};
-ghost use Rattle.ruby_value.specs.declared.setup.BufferSetup.{BufferSetup as BufferSetupRecord};
-ghost use Rattle.ruby_value.specs.declared.setup.MachineSetup.{MachineSetup as MachineRecord};
+ghost use Rattle.ruby_value.specs.declared.message.MsgNo.{MsgNo};
+ghost use Rattle.ruby_value.specs.declared.setup.BufferSetup.{BufferSetup};
+ghost use Rattle.ruby_value.specs.declared.setup.MachineSetup.{MachineSetup};
 ghost use Rattle.ruby_value.specs.declared.value.Value.{Value};
-ghost use Rattle.ruby_value.specs.Ascending.{has_mark, marks_from, with_mark};
+ghost use Rattle.ruby_value.specs.Prelude.{has_mark, marks_from, with_mark};
 ghost use Rattle.ruby_value.specs.declared.message.Delivery.{Delivery};
-ghost use Rattle.ruby_value.specs.declared.message.Message.{Message as MessageRecord};
-ghost use Rattle.ctl_face.specs.Again.{again};
-ghost use Rattle.ctl_face.specs.Ctl.{InboxMessage, Mail};
-ghost use Rattle.ctl_face.specs.Enqueue.{enqueue};
-ghost use Rattle.ctl_face.specs.Front.{IsFront, front};
-ghost use Rattle.ctl_face.specs.Inbox.{changed_message, with_message, without_message};
-ghost use Rattle.ctl_face.specs.LocalView.{Actor, LocalView};
-ghost use Rattle.ctl_face.specs.MarksAhead.{MarksAhead};
-ghost use Rattle.ctl_face.specs.Recycle.{recycle};
-ghost use Rattle.ctl_face.specs.Send.{Sending, send};
-ghost use Rattle.ctl_face.specs.SendAdds.{SendAdds};
-ghost use Rattle.ctl_face.specs.SendOrder.{SendsKeepOrder};
-ghost use Rattle.ctl_face.specs.State.{set_state, state};
+ghost use Rattle.ruby_value.specs.declared.message.Message.{Message};
+ghost use Rattle.ctl_face.specs.Prelude.{again, InboxMessage, Mail, enqueue, IsFront, front, changed_message, without_message, Actor, LocalView, MarksAhead, recycle, Sending, send, SendAdds, SendsKeepOrder, set_state, state};
+ghost use Rattle.ctl_face.specs.Inbox.{with_message};
 
 /// Each copy that a send makes arrives after the cycle of the send.
 pub fn copies_arrive_later()
-    ensures { (machine : MachineRecord) (actor : Actor) (mail : Mail) (buffer : ℕ) (latency : ℤ)
+    ensures { (machine : MachineSetup) (actor : Actor) (mail : Mail) (buffer : ℕ) (latency : ℤ)
         (fields : List Value) (now : ℕ) (s : Sending)
         → send machine actor mail buffer latency fields now ≡ Ok s
-        → All (λ (c : Delivery MessageRecord). now < c.message.arrival) s.copies }
+        → All (λ (c : Delivery Message). now < c.message.arrival) s.copies }
 {}
 
 /// A send that ends without a fault makes one copy for each receiver that its message names, with the sender's next numbers, and
@@ -35,12 +25,12 @@ pub fn copies_arrive_later()
 /// copy's time is told exactly where the network isn't ordered or no receiver is named twice, and else from below. Where a network
 /// keeps order, what is sent first arrives first, as long as nothing between the two sends lowers a last arrival there.
 pub fn sends_add_their_copies()
-    ensures added { (machine : MachineRecord) (actor : Actor) (mail : Mail) (buffer : ℕ) (latency : ℤ)
-        (fields : List Value) (now : ℕ) (on : BufferSetupRecord) (s : Sending)
+    ensures added { (machine : MachineSetup) (actor : Actor) (mail : Mail) (buffer : ℕ) (latency : ℤ)
+        (fields : List Value) (now : ℕ) (on : BufferSetup) (s : Sending)
         → slice_get machine.buffers buffer ≡ Some on
         → send machine actor mail buffer latency fields now ≡ Ok s
         → SendAdds on.place on.ordered actor mail buffer (nat_abs latency) fields now s }
-    ensures order { (network : ℕ) (machine : MachineRecord) (actor : Actor) (mail : Mail)
+    ensures order { (network : ℕ) (machine : MachineSetup) (actor : Actor) (mail : Mail)
         → SendsKeepOrder network machine actor mail }
 {}
 
@@ -75,10 +65,10 @@ pub fn edits_change_one_key()
     ensures put { (inbox : List InboxMessage) (m other : InboxMessage) → Contains
         (with_message inbox m) other
         ↔ ((m ≡ other) ⊎ (Contains inbox other × (other.message.number ≢ m.message.number))) }
-    ensures taken { (inbox : List InboxMessage) (number : MsgNoRecord) (other : InboxMessage)
+    ensures taken { (inbox : List InboxMessage) (number : MsgNo) (other : InboxMessage)
         → Contains (without_message inbox number) other
         ↔ (Contains inbox other × (other.message.number ≢ number)) }
-    ensures changed { (inbox : List InboxMessage) (number : MsgNoRecord)
+    ensures changed { (inbox : List InboxMessage) (number : MsgNo)
         (change : InboxMessage → InboxMessage)
         (other : InboxMessage)
         → Contains (changed_message inbox number change) other

@@ -1,5 +1,5 @@
 ghost use Rattle.std.specs.Prelude.{◌≡◌};
-ghost use Rattle.ctl_face.specs.Routing.{receiving_buffer as receiving_buffer_of, path_to as path_to_of, is_ordered as is_ordered_of};
+ghost use Rattle.ctl_face.specs.Routing.{receiving_buffer, path_to, is_ordered};
 
 use ruby_value::Seq;
 
@@ -22,7 +22,7 @@ pub struct Routes {
 impl Routes {
     /// The buffer that takes the messages of a virtual network at a controller, if there is one. It takes no memory.
     pub fn receiving_buffer(&self, receiver: u32, network: u16) -> Option<u16>
-        ensures { result ≡ receiving_buffer_of self.now receiver network }
+        ensures { result ≡ receiving_buffer self.now receiver network }
     {
         let Some(buffers) = self.receiving.get(receiver as usize) else {
             return None;
@@ -35,7 +35,7 @@ impl Routes {
 
     /// The length of the path between two controllers, in cycles; 0 between two that aren't there. It takes no memory.
     pub fn path_to(&self, sender: u32, receiver: u32) -> u64
-        ensures { result ≡ path_to_of self.now sender receiver }
+        ensures { result ≡ path_to self.now sender receiver }
     {
         let Some(paths) = self.paths.get(sender as usize) else {
             return 0;
@@ -48,7 +48,7 @@ impl Routes {
 
     /// Whether a virtual network keeps the order of what one controller sends to another. It takes no memory.
     pub fn is_ordered(&self, network: u16) -> bool
-        ensures { result ≡ is_ordered_of self.now network }
+        ensures { result ≡ is_ordered self.now network }
     {
         match self.ordered.get(usize::from(network)) {
             Some(ordered) => *ordered,

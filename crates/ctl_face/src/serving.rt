@@ -1,9 +1,7 @@
 // What a machine's tables and buffers serve: tests of what the calls of a local require. None takes memory.
 ghost use Rattle.std.specs.Prelude.{◌≡◌, ◌↔◌, IsTrue, IsSome, IsSomeAnd, slice_get};
-ghost use Rattle.ruby_value.specs.HasKind.{has_kind};
-ghost use Rattle.ruby_value.specs.HasKinds.{has_kinds};
-ghost use Rattle.ctl_face.specs.OfMachine.{buffer_place, field_kinds, message_kinds, table_size};
-ghost use Rattle.ctl_face.specs.Served.{is_cache as is_cache_of, is_tbe_table as is_tbe_table_of, looks_up as looks_up_of, deallocates as deallocates_of, receives as receives_of, sends as sends_of};
+ghost use Rattle.ruby_value.specs.Prelude.{has_kind, has_kinds};
+ghost use Rattle.ctl_face.specs.Prelude.{buffer_place, field_kinds, message_kinds, table_size, is_cache, is_tbe_table, looks_up, deallocates, receives, sends};
 
 use ruby_value::{BufferPlace, Fields, MachineSetup, TableSize, Value, have_kinds};
 
@@ -29,21 +27,21 @@ pub(crate) fn place_of(machine: &MachineSetup, buffer: u16) -> Option<BufferPlac
 
 /// Whether the table is a cache.
 pub fn is_cache(machine: &MachineSetup, table: u16) -> bool
-    ensures { result ≡ is_cache_of (table_size machine.now table) }
+    ensures { result ≡ is_cache (table_size machine.now table) }
 {
     matches!(size_of(machine, table), Some(TableSize::Cache { .. }))
 }
 
 /// Whether the table is a TBE table.
 pub fn is_tbe_table(machine: &MachineSetup, table: u16) -> bool
-    ensures { result ≡ is_tbe_table_of (table_size machine.now table) }
+    ensures { result ≡ is_tbe_table (table_size machine.now table) }
 {
     matches!(size_of(machine, table), Some(TableSize::Tbe { .. }))
 }
 
 /// Whether lines of the table can be looked up and allocated: those of a cache, a directory or a TBE table.
 pub fn looks_up(machine: &MachineSetup, table: u16) -> bool
-    ensures { result ≡ looks_up_of (table_size machine.now table) }
+    ensures { result ≡ looks_up (table_size machine.now table) }
 {
     match size_of(machine, table) {
         Some(TableSize::Cache { .. } | TableSize::Directory | TableSize::Tbe { .. }) => true,
@@ -53,7 +51,7 @@ pub fn looks_up(machine: &MachineSetup, table: u16) -> bool
 
 /// Whether lines of the table can be deallocated: those of a cache or a TBE table.
 pub fn deallocates(machine: &MachineSetup, table: u16) -> bool
-    ensures { result ≡ deallocates_of (table_size machine.now table) }
+    ensures { result ≡ deallocates (table_size machine.now table) }
 {
     is_cache(machine, table) || is_tbe_table(machine, table)
 }
@@ -85,7 +83,7 @@ pub fn takes_field(machine: &MachineSetup, table: u16, field: u16, value: &Value
 
 /// Whether messages are taken from the buffer.
 pub fn receives(machine: &MachineSetup, buffer: u16) -> bool
-    ensures { result ≡ receives_of (buffer_place machine.now buffer) }
+    ensures { result ≡ receives (buffer_place machine.now buffer) }
 {
     match place_of(machine, buffer) {
         Some(BufferPlace::Local | BufferPlace::From { .. }) => true,
@@ -95,7 +93,7 @@ pub fn receives(machine: &MachineSetup, buffer: u16) -> bool
 
 /// Whether messages are sent on the buffer.
 pub fn sends(machine: &MachineSetup, buffer: u16) -> bool
-    ensures { result ≡ sends_of (buffer_place machine.now buffer) }
+    ensures { result ≡ sends (buffer_place machine.now buffer) }
 {
     match place_of(machine, buffer) {
         Some(BufferPlace::Local | BufferPlace::To { .. }) => true,

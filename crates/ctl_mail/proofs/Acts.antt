@@ -6,16 +6,8 @@ use Rattle.ruby_value.specs.declared.fault.Fault.TheVariants.{Front, Latency}
 use Rattle.ruby_value.specs.declared.message.Message.{Message}
 use Rattle.ruby_value.specs.declared.message.MsgNo.{MsgNo}
 use Rattle.stall_map.specs.declared.stalled.Stalled.{Stalled}
-use Rattle.ctl_face.specs.Acts.{Acts}
-use Rattle.ctl_face.specs.AtFront.{at_front}
-use Rattle.ctl_face.specs.Ctl.{InboxMessage, Mail}
+use Rattle.ctl_face.specs.Prelude.{Acts, at_front, InboxMessage, Mail, NumbersAscend, changed_message, without_message, is_latency, incoming_message, mail_without, mail_with_recycled, message_arriving_again}
 use Rattle.ctl_face.specs.Front as face
-use Rattle.ctl_face.specs.Fits.{NumbersAscend}
-use Rattle.ctl_face.specs.Inbox.{changed_message, without_message}
-use Rattle.ctl_face.specs.Latency.{is_latency}
-use Rattle.ctl_face.specs.Mailing.{incoming_message}
-use Rattle.ctl_face.specs.Pop.{mail_without}
-use Rattle.ctl_face.specs.Recycle.{mail_with_recycled, message_arriving_again}
 use Rattle.ctl_face.proofs.Inboxes.{ascend-without}
 use Rattle.ctl_face.proofs.OneKey.{changed_message-contains, without_message-contains}
 use Rattle.ctl_face.proofs.Fronts.{front_first}
@@ -26,12 +18,8 @@ use Rattle.ctl_mail.proofs.SentActs.{fits-act}
 use Rattle.ctl_mail.specs.declared.act.MailAct.{MailAct}
 use Rattle.ctl_mail.specs.declared.act.MailAct.TheVariants.{Mark, Pop, Recycle}
 use Rattle.ctl_mail.specs.declared.sent.SendCounts.{SendCounts}
-use Rattle.ctl_mail.specs.MailView.{view_after_front, view_again, view_popped, view_recycled}
-use Rattle.ctl_mail.specs.Least.{IsFree, IsLeast}
-use Rattle.ctl_mail.specs.Queues.{Queues}
+use Rattle.ctl_mail.specs.Prelude.{view_after_front, view_again, view_popped, view_recycled, IsFree, IsLeast, Queues, mail_of, AreOf, IsGone, IsSeen, Reflects, Told, after_act, after_acts, changed_mail, changed_view, mail_at_front}
 use Rattle.ctl_mail.specs.declared.store.MailStore.{MailStore}
-use Rattle.ctl_mail.specs.MailOf.{mail_of}
-use Rattle.ctl_mail.specs.Told.{AreOf, IsGone, IsSeen, Reflects, Told, after_act, after_acts, changed_mail, changed_view, mail_at_front}
 
 pub fold-more : {A B : Type 0} (f : B → A → B) (b : B) (xs : List A) (x : A) → fold f b (xs ++ x ∷ []) ≡ f (fold f b xs) x
 fold-more f b [] x = refl

@@ -3,11 +3,11 @@ use Rattle.std.proofs.Common.{◌≡◌, ◌≢◌, ◌⊎◌, ◌++◌, ◌<◌
 use Rattle.std.proofs.lemmas.List.{take_more}
 use Rattle.std.proofs.lemmas.List.Sums.{fold-append}
 use Rattle.ruby_value.specs.declared.message.MsgNo.{MsgNo}
-use Rattle.ruby_value.specs.NumberBefore.{same_number}
+use Rattle.ruby_value.specs.Prelude.{same_number}
 use Rattle.ruby_value.proofs.Contained.{Contains-cons_cases, Contains-cons_here, Contains-cons_there}
 use Rattle.ctl_face.proofs.Held.{nothing-there}
 use Rattle.ctl_mail.specs.declared.moves.Move.{Move}
-use Rattle.ctl_mail.specs.Moves.{after_move, waiting_after}
+use Rattle.ctl_mail.specs.Prelude.{after_move, waiting_after}
 use Rattle.ctl_mail.proofs.Inboxes.{differ-test, same-or-not, same-test}
 
 -- the messages of these numbers wait so

@@ -7,9 +7,9 @@ use Rattle.ruby_value.proofs.Contained.{Contains-cons_cases}
 use Rattle.ruby_value.proofs.Ordered.{AllPairs-head, AllPairs-nil, AllPairs-tail}
 use Rattle.ruby_value.specs.declared.message.Message.{Message}
 use Rattle.msg_buffer.specs.Queue as queue
-use Rattle.msg_buffer.specs.Queue.{IsNew}
+use Rattle.msg_buffer.specs.Prelude.{IsNew}
 use Rattle.ctl_face.proofs.Held.{nothing-there}
-use Rattle.ctl_mail.specs.Queues.{LosesOneRoom, Queues, Replaces, queue_of, room_of}
+use Rattle.ctl_mail.specs.Prelude.{LosesOneRoom, Queues, Replaces, queue_of, room_of}
 use Rattle.ctl_mail.proofs.Inboxes.{nat-or-not}
 use Rattle.ctl_mail.proofs.Puts.{in-with-from, in-with-new, in-with-old}
 

@@ -1,14 +1,11 @@
 -- As a scan begins, what is ready in the mail is what its queues have, and what waits is what is stalled.
 use Rattle.std.proofs.Common.{◌≡◌, ◌≢◌, ℕ, Option, None, Some, [], sym, subst, ◌∙◌, ⊎_elim}
 use Rattle.ruby_value.specs.declared.message.MsgNo.{MsgNo}
-use Rattle.ctl_face.specs.Ctl.{Mail}
-use Rattle.ctl_face.specs.ScanView.{no_acts}
+use Rattle.ctl_face.specs.Prelude.{Mail, no_acts}
 use Rattle.ctl_face.proofs.Held.{nothing-there}
 use Rattle.ctl_mail.specs.declared.sent.SendCounts.{SendCounts}
 use Rattle.ctl_mail.specs.declared.store.MailStore.{MailStore}
-use Rattle.ctl_mail.specs.Inbox.{IsAt}
-use Rattle.ctl_mail.specs.MailOf.{IsMail, mail_of}
-use Rattle.ctl_mail.specs.Told.{AreOf, IsGone, Reflects, Told, counts_in}
+use Rattle.ctl_mail.specs.Prelude.{IsAt, IsMail, mail_of, AreOf, IsGone, Reflects, Told, counts_in}
 use Rattle.ctl_mail.proofs.Acts.{after-none}
 use Rattle.ctl_mail.proofs.Inboxes.{inbox-ascends, inbox-has}
 use Rattle.ctl_mail.proofs.AfterMoves.{after-nothing}

@@ -1,11 +1,9 @@
 -- A message that goes out of an inbox and comes back changed, with its number, is changed there.
 use Rattle.std.proofs.Common.{◌≡◌, Bool, true, false, List, cond, refl, sym, ap, ◌∙◌, inl, inr, ⊎_elim, Contains}
 use Rattle.ruby_value.specs.declared.message.Message.{Message}
-use Rattle.ruby_value.specs.NumberBefore.{same_number}
-use Rattle.ctl_face.specs.Ctl.{InboxMessage}
-use Rattle.ctl_face.specs.Fits.{NumbersAscend}
-use Rattle.ctl_face.specs.Inbox.{changed_message, with_message, without_message}
-use Rattle.ctl_face.specs.Mailing.{incoming_message}
+use Rattle.ruby_value.specs.Prelude.{same_number}
+use Rattle.ctl_face.specs.Prelude.{InboxMessage, NumbersAscend, changed_message, without_message, incoming_message}
+use Rattle.ctl_face.specs.Inbox.{with_message}
 use Rattle.ctl_face.proofs.Inboxes.{ascend-map, ascend-with, ascend-without}
 use Rattle.ctl_face.proofs.OneKey.{changed_message-contains, with_message-contains, without_message-contains}
 use Rattle.ctl_mail.proofs.Inboxes.{one-of-ascending, same-lists}

@@ -4,21 +4,17 @@ use Rattle.std.specs.List.{AllPairs, fold}
 use Rattle.std.proofs.lemmas.List.Elements.{All-contains, All-head, All-tail, Contains-get_or}
 use Rattle.std.proofs.lemmas.List.Sums.{length-filter, sum_by-cons}
 use Rattle.ruby_value.specs.declared.message.Message.{Message}
-use Rattle.ruby_value.specs.NumberBefore.{number_before}
-use Rattle.ruby_value.specs.Roomy.{Roomy}
+use Rattle.ruby_value.specs.Prelude.{number_before, Roomy}
 use Rattle.ruby_value.proofs.Contained.{Contains-cons_here, Contains-cons_there}
 use Rattle.ruby_value.proofs.Ordered.{AllPairs-append, AllPairs-head, AllPairs-nil, AllPairs-tail}
 use Rattle.stall_map.specs.declared.stalled.Stalled.{Stalled}
-use Rattle.stall_map.specs.Stalls.{Ascends}
-use Rattle.msg_buffer.specs.Queue.{IsQueue}
-use Rattle.ctl_face.specs.Ctl.{InboxMessage}
+use Rattle.stall_map.specs.Prelude.{Ascends}
+use Rattle.msg_buffer.specs.Prelude.{IsQueue}
+use Rattle.ctl_face.specs.Prelude.{InboxMessage, incoming_message}
 use Rattle.ctl_face.specs.Inbox.{with_message}
-use Rattle.ctl_face.specs.Mailing.{incoming_message}
 use Rattle.ctl_face.proofs.Held.{from-map, nothing-there}
 use Rattle.ctl_face.proofs.OneKey.{with_message-contains}
-use Rattle.ctl_mail.specs.Census.{is_queued, is_recycled, is_stalled}
-use Rattle.ctl_mail.specs.Inbox.{Has, Holds, inbox_of, queued_messages, waiting_message}
-use Rattle.ctl_mail.specs.Queues.{Queues, queue_of}
+use Rattle.ctl_mail.specs.Prelude.{is_queued, is_recycled, is_stalled, Has, Holds, inbox_of, queued_messages, waiting_message, Queues, queue_of}
 use Rattle.ctl_mail.proofs.Inboxes.{queued-from}
 use Rattle.ctl_mail.proofs.Inserts.{number-order}
 use Rattle.ctl_mail.proofs.Rises.{not-after}

@@ -4,9 +4,9 @@ use Rattle.std.proofs.lemmas.List.Elements.{All-head, All-tail}
 use Rattle.std.proofs.lemmas.Option.{slice_get_past}
 use Rattle.std.specs.FinMap.{empty}
 use Rattle.ruby_value.specs.declared.message.Message.{Message}
-use Rattle.ruby_value.specs.Roomy.{Roomy}
-use Rattle.ctl_face.specs.Lasts.{Lasts}
-use Rattle.ctl_mail.specs.Queues.{Queues, Replaces, messages_in, queue_of, room_in, room_of}
+use Rattle.ruby_value.specs.Prelude.{Roomy}
+use Rattle.ctl_face.specs.Prelude.{Lasts}
+use Rattle.ctl_mail.specs.Prelude.{Queues, Replaces, messages_in, queue_of, room_in, room_of}
 
 -- what is read at a place within
 pub read-at : {X : Type 0} (queues : List X) (at : ℕ) (q : X) → at < length queues → q ≡ get_or queues at q → slice_get queues at ≡ Some q

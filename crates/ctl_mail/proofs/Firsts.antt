@@ -6,10 +6,9 @@ use Rattle.std.proofs.lemmas.List.Elements.{Contains-append_left, Contains-push,
 use Rattle.std.proofs.lemmas.Option.{slice_get-get_or}
 use Rattle.ruby_value.specs.declared.message.Message.{Message}
 use Rattle.stall_map.specs.declared.stalled.Stalled.{Stalled}
-use Rattle.msg_buffer.specs.Queue.{ComesBefore, comes_before}
+use Rattle.msg_buffer.specs.Prelude.{ComesBefore, comes_before}
 use Rattle.ctl_face.proofs.Held.{nothing-there}
-use Rattle.ctl_mail.specs.Least.{IsBack, IsBackAt, IsBackNow, IsFirst, IsLeast, first_of_two}
-use Rattle.ctl_mail.specs.Told.{Told}
+use Rattle.ctl_mail.specs.Prelude.{IsBack, IsBackAt, IsBackNow, IsFirst, IsLeast, first_of_two, Told}
 use Rattle.ctl_mail.proofs.Leasts.{least-as}
 
 before-by : (a b : Message) → comes_before a b ≡ true → ComesBefore a b

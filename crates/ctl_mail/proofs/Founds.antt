@@ -7,8 +7,7 @@ use Rattle.ruby_value.specs.declared.message.MsgNo.{MsgNo}
 use Rattle.stall_map.specs.declared.stalled.Stalled.{Stalled}
 use Rattle.ctl_mail.specs.declared.moves.Move.{Move}
 use Rattle.ctl_mail.specs.declared.moves.Waking.{Waking}
-use Rattle.ctl_mail.specs.Numbers.{Adds}
-use Rattle.ctl_mail.specs.Told.{IsWoken, IsWokenMoved, IsWokenStalled, Told}
+use Rattle.ctl_mail.specs.Prelude.{Adds, IsWoken, IsWokenMoved, IsWokenStalled, Told}
 use Rattle.ctl_mail.proofs.Rises.{adds-as, adds-both}
 
 -- what a list has one place further

@@ -8,16 +8,11 @@ use Rattle.ruby_value.specs.Front as general
 use Rattle.ruby_value.proofs.Contained.{Contains-cons_cases}
 use Rattle.ruby_value.proofs.Fronts.{front-is}
 use Rattle.msg_buffer.specs.Queue as queue
-use Rattle.msg_buffer.specs.Queue.{ComesBefore, is_after, next_after}
-use Rattle.ctl_face.specs.Ctl.{Mail}
+use Rattle.msg_buffer.specs.Prelude.{ComesBefore, is_after, next_after}
+use Rattle.ctl_face.specs.Prelude.{Mail, incoming_message}
 use Rattle.ctl_face.specs.Front as face
-use Rattle.ctl_face.specs.Mailing.{incoming_message}
 use Rattle.ctl_face.proofs.Held.{nothing-there}
-use Rattle.ctl_mail.specs.Inbox.{IsAt}
-use Rattle.ctl_mail.specs.Least.{HasArrived, IsBack, IsEither, IsFirst, IsFree, IsLeast, IsLeftIn}
-use Rattle.ctl_mail.specs.Moves.{waiting_after}
-use Rattle.ctl_mail.specs.Queues.{Queues, queue_of}
-use Rattle.ctl_mail.specs.Told.{IsGone, IsOut, Reflects, Told}
+use Rattle.ctl_mail.specs.Prelude.{IsAt, HasArrived, IsBack, IsEither, IsFirst, IsFree, IsLeast, IsLeftIn, waiting_after, Queues, queue_of, IsGone, IsOut, Reflects, Told}
 use Rattle.ctl_mail.proofs.Leasts.{front-only, least-as, queue-least}
 
 module _ (messages : List Message) (cycle : ℕ) (Out : MsgNo → Type 0) where

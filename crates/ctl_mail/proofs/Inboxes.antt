@@ -5,19 +5,16 @@ use Rattle.std.proofs.lemmas.Bool.Decides.{nat_tests}
 use Rattle.std.proofs.lemmas.List.Elements.{All-contains, Contains-append_cases, Contains-append_left, Contains-append_right}
 use Rattle.ruby_value.specs.declared.message.Message.{Message}
 use Rattle.ruby_value.specs.declared.message.MsgNo.{MsgNo}
-use Rattle.ruby_value.specs.NumberBefore.{number_before, same_number}
+use Rattle.ruby_value.specs.Prelude.{number_before, same_number}
 use Rattle.ruby_value.proofs.Contained.{Contains-cons_cases, Contains-cons_here, Contains-cons_there}
 use Rattle.ruby_value.proofs.Ordered.{AllPairs-head, AllPairs-nil, AllPairs-tail}
 use Rattle.stall_map.specs.declared.stalled.Stalled.{Stalled}
-use Rattle.ctl_face.specs.Ctl.{InboxMessage}
-use Rattle.ctl_face.specs.Fits.{NumbersAscend}
+use Rattle.ctl_face.specs.Prelude.{InboxMessage, NumbersAscend, incoming_message}
 use Rattle.ctl_face.specs.Inbox.{with_message}
-use Rattle.ctl_face.specs.Mailing.{incoming_message}
 use Rattle.ctl_face.proofs.Held.{from-map, nothing-there, to-map}
 use Rattle.ctl_face.proofs.Inboxes.{Before, ascend-with}
 use Rattle.ctl_face.proofs.OneKey.{with_message-contains}
-use Rattle.ctl_mail.specs.Inbox.{Has, Holds, inbox_of, queued_messages, waiting_message}
-use Rattle.ctl_mail.specs.Queues.{Queues, queue_of}
+use Rattle.ctl_mail.specs.Prelude.{Has, Holds, inbox_of, queued_messages, waiting_message, Queues, queue_of}
 
 number-parts : (a b : MsgNo) → ((a.sender ≡ b.sender) × (a.count ≡ b.count)) ⊎ (same_number a b ≡ false)
 number-parts a b = grind (arith, nat_tests)

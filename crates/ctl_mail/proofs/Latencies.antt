@@ -3,7 +3,7 @@ use Rattle.std.proofs.Common.{◌≡◌, ℕ, ℤ, Bool, true, false, cond, nat_
 use Rattle.std.proofs.lemmas.Int.{to_z-of_z}
 use mir.Val.{SFits, of_z, to_z}
 use mir.Syntax.{w64}
-use Rattle.ctl_face.specs.Latency.{is_latency}
+use Rattle.ctl_face.specs.Prelude.{is_latency}
 
 judged-some : (b : Bool) (n later : ℕ) → cond b (Some n) None ≡ Some later → (b ≡ true) × (n ≡ later)
 judged-some true n later is = (refl, cc (is))

@@ -4,16 +4,12 @@ use Rattle.std.proofs.lemmas.Bool.Decides.{nat_tests}
 use Rattle.ruby_value.specs.declared.message.Message.{Message}
 use Rattle.ruby_value.proofs.Fronts.{front-is}
 use Rattle.stall_map.specs.declared.stalled.Stalled.{Stalled}
-use Rattle.ctl_face.specs.Ctl.{InboxMessage, Mail}
-use Rattle.ctl_face.specs.Fits.{NumbersAscend}
+use Rattle.ctl_face.specs.Prelude.{InboxMessage, Mail, NumbersAscend, incoming_message}
 use Rattle.ctl_face.specs.Front as face
-use Rattle.ctl_face.specs.Mailing.{incoming_message}
 use Rattle.ctl_face.proofs.Fronts.{front_first}
 use Rattle.msg_buffer.specs.Queue as queue
-use Rattle.msg_buffer.specs.Queue.{ComesBefore}
-use Rattle.ctl_mail.specs.Inbox.{Holds, inbox_of}
-use Rattle.ctl_mail.specs.Least.{HasArrived, IsFree, IsLeast}
-use Rattle.ctl_mail.specs.Queues.{Queues, queue_of}
+use Rattle.msg_buffer.specs.Prelude.{ComesBefore}
+use Rattle.ctl_mail.specs.Prelude.{Holds, inbox_of, HasArrived, IsFree, IsLeast, Queues, queue_of}
 use Rattle.ctl_mail.proofs.Inboxes.{inbox-ascends, inbox-has, one-of-ascending}
 
 -- two of which neither comes before the other have one number

@@ -3,18 +3,8 @@ use Rattle.std.proofs.Common.{◌≡◌, ◌∷◌, ◌++◌, [], ℕ, ℤ, List
 use Rattle.ruby_value.specs.declared.fault.Fault.{Fault}
 use Rattle.ruby_value.specs.declared.message.MsgNo.{MsgNo}
 use Rattle.ruby_value.specs.declared.value.Value.{Value}
-use Rattle.ctl_face.specs.Acts.{Acts}
-use Rattle.ctl_face.specs.Again.{again}
-use Rattle.ctl_face.specs.AtFront.{AtFront, after_front}
-use Rattle.ctl_face.specs.Enqueue.{after_sending, enqueue}
-use Rattle.ctl_face.specs.LocalView.{LocalView}
-use Rattle.ctl_face.specs.Pop.{pop, popped_mail}
-use Rattle.ctl_face.specs.Recycle.{recycle, recycled_mail}
-use Rattle.ctl_face.specs.Send.{Sending, send}
-use Rattle.ctl_face.specs.Stall.{stall, stalled_mail}
-use Rattle.ctl_face.specs.Wake.{wake, wake_all}
-use Rattle.ctl_mail.specs.Sends.{view_after_sending, view_sent}
-use Rattle.ctl_mail.specs.MailView.{MailView, mail_view, view_after_front, view_again, view_popped, view_recycled, view_stalled, view_wake, view_wake_all, with_mail_view}
+use Rattle.ctl_face.specs.Prelude.{Acts, again, AtFront, after_front, after_sending, enqueue, LocalView, pop, popped_mail, recycle, recycled_mail, Sending, send, stall, stalled_mail, wake, wake_all}
+use Rattle.ctl_mail.specs.Prelude.{view_after_sending, view_sent, MailView, mail_view, view_after_front, view_again, view_popped, view_recycled, view_stalled, view_wake, view_wake_all, with_mail_view}
 
 -- the local after it, or the fault
 abbrev pub in_local : LocalView → Result MailView Fault → Result LocalView Fault

@@ -5,35 +5,21 @@ use Rattle.std.specs.List.Sorted.{IsStrictlyIncreasing}
 use Rattle.std.specs.FinMap.{empty}
 use Rattle.std.specs.declared.alloc.Global.{Global}
 use Rattle.std.specs.declared.vec.Vec.{Vec}
-use Rattle.ruby_value.specs.Ascending.{with_mark}
+use Rattle.ruby_value.specs.Prelude.{with_mark, Roomy}
 use Rattle.ruby_value.specs.declared.message.Message.{Message}
 use Rattle.ruby_value.specs.declared.message.MsgNo.{MsgNo}
-use Rattle.ruby_value.specs.Roomy.{Roomy}
 use Rattle.ruby_value.proofs.Ordered.{AllPairs-nil}
 use Rattle.msg_buffer.specs.Queue as queue
 use Rattle.stall_map.specs.declared.stalled.Stalled.{Stalled}
-use Rattle.ctl_face.specs.AtFront.{at_front}
-use Rattle.ctl_face.specs.Ctl.{InboxMessage, Mail}
+use Rattle.ctl_face.specs.Prelude.{at_front, InboxMessage, Mail, without_message, incoming_message, mail_with_mark, mail_with_arrival, network_count, Lasts, no_mail, NumbersAscend, mail_without, mail_with_recycled, message_arriving_again}
 use Rattle.ctl_face.specs.Front as face
-use Rattle.ctl_face.specs.Inbox.{without_message}
-use Rattle.ctl_face.specs.Mailing.{incoming_message, mail_with_mark, mail_with_arrival}
-use Rattle.ctl_face.specs.IsMachine.{network_count}
-use Rattle.ctl_face.specs.Lasts.{Lasts}
-use Rattle.ctl_face.specs.Opening.{no_mail}
-use Rattle.ctl_face.specs.Fits.{NumbersAscend}
-use Rattle.ctl_face.specs.Pop.{mail_without}
-use Rattle.ctl_face.specs.Recycle.{mail_with_recycled, message_arriving_again}
 use Rattle.ctl_face.proofs.Fronts.{front_first}
 use Rattle.ctl_face.proofs.Held.{nothing-there}
 use Rattle.ctl_face.proofs.Inboxes.{Before}
 use Rattle.ctl_face.proofs.OneKey.{without_message-contains}
 use Rattle.ctl_mail.specs.declared.act.MailAct.TheVariants.{Pop, Recycle}
 use Rattle.ctl_mail.specs.declared.store.MailStore.{MailStore}
-use Rattle.ctl_mail.specs.Inbox.{Has, Holds, IsAt, inbox_of}
-use Rattle.ctl_mail.specs.Least.{HasArrived, IsFree, IsLeast}
-use Rattle.ctl_mail.specs.MailOf.{IsMail, IsNewIn, mail_of}
-use Rattle.ctl_mail.specs.Queues.{Queues, Replaces, queue_of}
-use Rattle.ctl_mail.specs.Told.{after_act, mail_at_front}
+use Rattle.ctl_mail.specs.Prelude.{Has, Holds, IsAt, inbox_of, HasArrived, IsFree, IsLeast, IsMail, IsNewIn, mail_of, Queues, Replaces, queue_of, after_act, mail_at_front}
 use Rattle.ctl_mail.proofs.Inboxes.{becomes, inbox-has}
 use Rattle.ctl_mail.proofs.Leasts.{front-least, front-of-queue, queue-least}
 use Rattle.ctl_mail.proofs.Pops.{popped, replaced-same, same-held}

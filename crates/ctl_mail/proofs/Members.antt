@@ -9,7 +9,7 @@ use Rattle.std.proofs.lemmas.List.Elements.{All-cons, All-head, All-nil, All-tai
 use Rattle.std.proofs.lemmas.List.Kept.{AllPairs-from_increasing}
 use Rattle.ruby_value.proofs.Ordered.{AllPairs-head, AllPairs-tail}
 use Rattle.ctl_face.specs.declared.routes.Routes.{Routes}
-use Rattle.ctl_mail.specs.Sends.{is_routed, members_from}
+use Rattle.ctl_mail.specs.Prelude.{is_routed, members_from}
 
 abbrev Rise : List ℕ → Type 0
 Rise xs = AllPairs (λ (a b : ℕ). a < b) xs

@@ -4,14 +4,12 @@ use Rattle.std.specs.FinMap as finite
 use Rattle.std.specs.List.{All}
 use Rattle.std.proofs.lemmas.List.{get_or_default}
 use Rattle.std.proofs.lemmas.List.Elements.{All-head, All-tail}
-use Rattle.ruby_value.specs.Roomy.{Roomy}
-use Rattle.ctl_face.specs.Lasts.{Lasts, lasts_on, with_last}
+use Rattle.ruby_value.specs.Prelude.{Roomy}
+use Rattle.ctl_face.specs.Prelude.{Lasts, lasts_on, with_last}
 use Rattle.ctl_mail.specs.declared.act.MailAct.{MailAct}
 use Rattle.ctl_mail.specs.declared.act.MailAct.TheVariants.{Arrive, LocalLast, NetworkLast}
 use Rattle.ctl_mail.specs.declared.store.MailStore.{MailStore}
-use Rattle.ctl_mail.specs.Lasts.{lasts_in}
-use Rattle.ctl_mail.specs.Queues.{room_of}
-use Rattle.ctl_mail.specs.Room.{HasLastRoom, HasPlaces, LosesPlaces}
+use Rattle.ctl_mail.specs.Prelude.{lasts_in, room_of, HasLastRoom, HasPlaces, LosesPlaces}
 use Rattle.ctl_mail.proofs.Edits.{nat-same-or-not, set-here, set-other}
 
 pub ok-then : {E P Q : Type 0} (r : Result (Unit {0}) E) → (P → Q) → OnOk r P → OnOk r Q

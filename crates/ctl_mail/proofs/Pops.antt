@@ -2,17 +2,14 @@
 use Rattle.std.proofs.Common.{◌≡◌, ◌≢◌, ◌<◌, ℕ, length, Bool, true, false, not, Option, None, Some, List, refl, sym, subst, ap, ◌∙◌, ⊎_elim, Contains}
 use Rattle.ruby_value.specs.declared.message.Message.{Message}
 use Rattle.ruby_value.specs.declared.message.MsgNo.{MsgNo}
-use Rattle.ruby_value.specs.NumberBefore.{same_number}
+use Rattle.ruby_value.specs.Prelude.{same_number}
 use Rattle.stall_map.specs.declared.stalled.Stalled.{Stalled}
 use Rattle.msg_buffer.specs.Queue as queue
-use Rattle.ctl_face.specs.Ctl.{InboxMessage}
-use Rattle.ctl_face.specs.Inbox.{without_message}
-use Rattle.ctl_face.specs.Mailing.{incoming_message}
+use Rattle.ctl_face.specs.Prelude.{InboxMessage, without_message, incoming_message}
 use Rattle.ctl_face.proofs.Held.{from-filter, in-filter}
 use Rattle.ctl_face.proofs.Inboxes.{ascend-without}
 use Rattle.ctl_face.proofs.OneKey.{without_message-contains}
-use Rattle.ctl_mail.specs.Inbox.{Has, Holds, IsAt, inbox_of}
-use Rattle.ctl_mail.specs.Queues.{Queues, Replaces, queue_of}
+use Rattle.ctl_mail.specs.Prelude.{Has, Holds, IsAt, inbox_of, Queues, Replaces, queue_of}
 use Rattle.ctl_mail.proofs.Inboxes.{becomes, differ-by, differ-test, inbox-ascends, inbox-has, nat-or-not}
 
 -- a message list without a number

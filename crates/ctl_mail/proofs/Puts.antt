@@ -6,14 +6,12 @@ use Rattle.ruby_value.specs.declared.message.Message.{Message}
 use Rattle.ruby_value.proofs.Contained.{Contains-cons_cases, Contains-cons_here, Contains-cons_there}
 use Rattle.stall_map.specs.declared.stalled.Stalled.{Stalled}
 use Rattle.msg_buffer.specs.Queue as queue
-use Rattle.ctl_face.specs.Ctl.{InboxMessage}
+use Rattle.ctl_face.specs.Prelude.{InboxMessage, incoming_message}
 use Rattle.ctl_face.specs.Inbox.{with_message}
-use Rattle.ctl_face.specs.Mailing.{incoming_message}
 use Rattle.ctl_face.proofs.Held.{from-filter, in-filter}
 use Rattle.ctl_face.proofs.Inboxes.{ascend-with}
 use Rattle.ctl_face.proofs.OneKey.{with_message-contains}
-use Rattle.ctl_mail.specs.Inbox.{Has, Holds, IsAt, inbox_of}
-use Rattle.ctl_mail.specs.Queues.{Queues, Replaces, queue_of}
+use Rattle.ctl_mail.specs.Prelude.{Has, Holds, IsAt, inbox_of, Queues, Replaces, queue_of}
 use Rattle.ctl_mail.proofs.Inboxes.{becomes, inbox-ascends, inbox-has, nat-or-not}
 
 number-or-order : (a b : Message) → ((a.number.sender ≡ b.number.sender) × (a.number.count ≡ b.number.count)) ⊎ ((queue.comes_before a b ≡ true) ⊎ (queue.comes_before b a ≡ true))

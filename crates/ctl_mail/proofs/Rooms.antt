@@ -3,9 +3,7 @@ use Rattle.std.proofs.Common.{◌≡◌, ◌<◌, ◌≤◌, ◌+◌, ℕ, Bool,
 use Rattle.std.proofs.lemmas.List.Sums.{length-filter}
 use Rattle.ctl_mail.specs.declared.act.MailAct.{MailAct}
 use Rattle.ctl_mail.specs.declared.store.MailStore.{MailStore}
-use Rattle.ctl_mail.specs.MailOf.{buffer_count}
-use Rattle.ctl_mail.specs.Queues.{room_of}
-use Rattle.ctl_mail.specs.Room.{HasPlaces, HasPlacesToWake, HasRoomToMake, LosesPlaces, is_stall, is_wake, mark_room}
+use Rattle.ctl_mail.specs.Prelude.{buffer_count, room_of, HasPlaces, HasPlacesToWake, HasRoomToMake, LosesPlaces, is_stall, is_wake, mark_room}
 use Rattle.ctl_mail.proofs.Places.{places-first, places-rest}
 
 count-cons : {X : Type 0} (p : X → Bool) (x : X) (xs : List X) → count_by p (x ∷ xs) ≡ count_by p (x ∷ []) + count_by p xs

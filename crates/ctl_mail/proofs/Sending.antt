@@ -11,16 +11,9 @@ use Rattle.ruby_value.specs.declared.setup.BufferPlace.{BufferPlace}
 use Rattle.ruby_value.specs.declared.setup.BufferSetup.{BufferSetup}
 use Rattle.ruby_value.specs.declared.setup.MachineSetup.{MachineSetup}
 use Rattle.ruby_value.specs.declared.value.Value.{Value}
-use Rattle.ctl_face.specs.Latency.{is_latency}
-use Rattle.ctl_face.specs.Acts.{Acts, sent_of}
+use Rattle.ctl_face.specs.Prelude.{is_latency, Acts, sent_of, InboxMessage, Mail, for_others, with_last, Actor, incoming_message, mail_with_delivery, Sending, has_jitter, no_copies, send, sending_from, sending_on, with_network_copy}
 use Rattle.ruby_value.specs.declared.message.Delivery.{Delivery}
-use Rattle.ctl_face.specs.Ctl.{InboxMessage, Mail}
-use Rattle.ctl_face.specs.Enqueue.{for_others}
 use Rattle.ctl_face.specs.Inbox.{with_message}
-use Rattle.ctl_face.specs.Lasts.{with_last}
-use Rattle.ctl_face.specs.LocalView.{Actor}
-use Rattle.ctl_face.specs.Mailing.{incoming_message, mail_with_delivery}
-use Rattle.ctl_face.specs.Send.{Sending, has_jitter, no_copies, send, sending_from, sending_on, with_network_copy}
 use Rattle.ctl_face.proofs.Inboxes.{ascend-with}
 use Rattle.ctl_face.proofs.OneKey.{with_message-contains}
 use Rattle.ctl_mail.specs.declared.act.MailAct.{MailAct}
@@ -28,15 +21,10 @@ use Rattle.ctl_mail.specs.declared.act.MailAct.TheVariants.{LocalLast, NetworkLa
 use Rattle.stall_map.specs.declared.stalled.Stalled.{Stalled}
 use Rattle.ctl_mail.specs.declared.changes.MailChanges.{MailChanges}
 use Rattle.ctl_mail.specs.declared.store.MailStore.{MailStore}
-use Rattle.ctl_mail.specs.MailOf.{IsNewIn, mail_of}
-use Rattle.ctl_mail.specs.MailView.{MailView}
-use Rattle.ctl_mail.specs.Queues.{Queues}
-use Rattle.ctl_mail.specs.Sends.{AreNext, MaySend, OwnAreBelow, copies_to_all, view_with_copies, view_with_network_copy}
-use Rattle.ctl_mail.specs.Sent.{HasSpace, copy_at, told_with_act, told_with_copy}
-use Rattle.ctl_mail.specs.Told.{AreOf, CountsFit, Reflects, Told, after_act, changed_mail, changed_view}
+use Rattle.ctl_mail.specs.Prelude.{IsNewIn, mail_of, MailView, Queues, AreNext, MaySend, OwnAreBelow, copies_to_all, view_with_copies, view_with_network_copy, HasSpace, copy_at, told_with_act, told_with_copy, AreOf, CountsFit, Reflects, Told, after_act, changed_mail, changed_view}
 use Rattle.ctl_mail.proofs.Acts.{reflects-as}
 use Rattle.ctl_mail.proofs.SentActs.{after-both, after-copy, after-one, copied_mail, fits-act, fits-copy, late-contains, still-contains}
-use Rattle.pcg_words.specs.Position.{Position}
+use Rattle.pcg_words.specs.Prelude.{Position}
 
 pub after-act : (mail : Mail) (act : MailAct) (t : Told) → changed_mail mail (told_with_act act t) ≡ after_act t.cycle (changed_mail mail t) act
 after-act mail act t = after-both t.cycle mail t.log (act ∷ []) ∙ after-one t.cycle (changed_mail mail t) act

@@ -8,27 +8,17 @@ use Rattle.std.proofs.lemmas.List.{length-set}
 use Rattle.std.proofs.lemmas.List.Elements.{All-contains}
 use Rattle.std.proofs.lemmas.List.Sums.{fold-append}
 use Rattle.ruby_value.specs.declared.message.Message.{Message}
-use Rattle.ctl_face.specs.Acts.{Acts}
+use Rattle.ctl_face.specs.Prelude.{Acts, at_front, InboxMessage, Mail, Lasts, last_at, lasts_on, with_last, incoming_message, mail_with_delivery, mail_without, mail_with_recycled, mail_with_waiting}
 use Rattle.ruby_value.specs.declared.message.Delivery.{Delivery}
-use Rattle.ctl_face.specs.AtFront.{at_front}
-use Rattle.ctl_face.specs.Ctl.{InboxMessage, Mail}
 use Rattle.ctl_face.specs.Front as face
 use Rattle.ctl_face.specs.Inbox.{with_message}
-use Rattle.ctl_face.specs.Lasts.{Lasts, last_at, lasts_on, with_last}
-use Rattle.ctl_face.specs.Mailing.{incoming_message, mail_with_delivery}
-use Rattle.ctl_face.specs.Pop.{mail_without}
-use Rattle.ctl_face.specs.Recycle.{mail_with_recycled}
-use Rattle.ctl_face.specs.Stall.{mail_with_waiting}
 use Rattle.ctl_face.proofs.LastArrivals.{inserted_elsewhere, inserted_here, not_moved}
 use Rattle.ctl_face.proofs.OneKey.{with_message-contains}
 use Rattle.ctl_mail.specs.declared.act.MailAct.{MailAct}
 use Rattle.ctl_mail.specs.declared.act.MailAct.TheVariants.{Arrive, Count, LocalLast, Mark, NetworkLast, Pop, Recycle, Stall, Wake, WakeAll}
 use Rattle.ctl_mail.specs.declared.moves.Move.{Move}
 use Rattle.ctl_mail.specs.declared.sent.SendCounts.{SendCounts}
-use Rattle.ctl_mail.specs.MailOf.{IsNewIn}
-use Rattle.ctl_mail.specs.Queues.{Queues}
-use Rattle.ctl_mail.specs.Sent.{copy_acts, counts_after, newer_local, newer_network, told_with_copy}
-use Rattle.ctl_mail.specs.Told.{AreMakeable, CopiesFit, CountsFit, IsMakeable, IsSeen, Told, after_act, after_acts, changed_mail, counts_in, mail_at_front}
+use Rattle.ctl_mail.specs.Prelude.{IsNewIn, Queues, copy_acts, counts_after, newer_local, newer_network, told_with_copy, AreMakeable, CopiesFit, CountsFit, IsMakeable, IsSeen, Told, after_act, after_acts, changed_mail, counts_in, mail_at_front}
 
 pub after-both : (now : ℕ) (mail : Mail) (xs ys : List MailAct) → after_acts now mail (xs ++ ys) ≡ after_acts now (after_acts now mail xs) ys
 unfolding after_acts

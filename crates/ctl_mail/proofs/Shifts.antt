@@ -3,14 +3,10 @@ use Rattle.std.proofs.Common.{◌≡◌, ◌≢◌, ◌⊎◌, ◌++◌, ℕ, Op
 use Rattle.std.proofs.lemmas.List.Elements.{Contains-append_cases}
 use Rattle.ruby_value.specs.declared.message.MsgNo.{MsgNo}
 use Rattle.stall_map.specs.declared.stalled.Stalled.{Stalled}
-use Rattle.ctl_face.specs.Ctl.{InboxMessage}
-use Rattle.ctl_face.specs.Fits.{NumbersAscend}
+use Rattle.ctl_face.specs.Prelude.{InboxMessage, NumbersAscend}
 use Rattle.ctl_face.proofs.Held.{from-map}
 use Rattle.ctl_mail.specs.declared.moves.Move.{Move}
-use Rattle.ctl_mail.specs.Inbox.{Has, Holds}
-use Rattle.ctl_mail.specs.Moves.{waiting_after}
-use Rattle.ctl_mail.specs.Queues.{Queues}
-use Rattle.ctl_mail.specs.Told.{IsGone, IsLeft, IsSeen, Reflects, Told}
+use Rattle.ctl_mail.specs.Prelude.{Has, Holds, waiting_after, Queues, IsGone, IsLeft, IsSeen, Reflects, Told}
 use Rattle.ctl_mail.proofs.Inboxes.{one-of-ascending}
 use Rattle.ctl_mail.proofs.AfterMoves.{in-or-not, moves_to, waits-in, waits-out}
 

@@ -2,31 +2,21 @@
 use Rattle.std.proofs.Common.{◌≡◌, ◌≢◌, ◌⊎◌, ◌<◌, ◌≤◌, ◌+◌, ◌++◌, ℕ, Bool, get_or, filter, length-append, arith, Option, None, Some, Ok, Err, List, [], ◌∷◌, length, refl, sym, subst, ap, ◌∙◌, inl, inr, ⊎_elim, Contains}
 use Rattle.std.proofs.lemmas.List.Elements.{Contains-get_or}
 use Rattle.ruby_value.specs.declared.fault.Fault.TheVariants.{Front}
-use Rattle.ruby_value.specs.Roomy.{Roomy}
+use Rattle.ruby_value.specs.Prelude.{Roomy}
 use Rattle.ruby_value.specs.declared.message.Message.{Message}
 use Rattle.ruby_value.specs.declared.message.MsgNo.{MsgNo}
 use Rattle.ruby_value.proofs.Contained.{Contains-cons_cases, Contains-cons_here}
 use Rattle.stall_map.specs.declared.stalled.Stalled.{Stalled}
-use Rattle.stall_map.specs.Stalls.{IsNew, comes_before, with_stalled}
-use Rattle.ctl_face.specs.AtFront.{at_front}
-use Rattle.ctl_face.specs.Ctl.{InboxMessage, Mail}
+use Rattle.stall_map.specs.Prelude.{IsNew, comes_before, with_stalled}
+use Rattle.ctl_face.specs.Prelude.{at_front, InboxMessage, Mail, NumbersAscend, changed_message, incoming_message, mail_without, mail_with_waiting, message_waiting_under}
 use Rattle.ctl_face.specs.Front as face
-use Rattle.ctl_face.specs.Fits.{NumbersAscend}
-use Rattle.ctl_face.specs.Inbox.{changed_message, with_message}
-use Rattle.ctl_face.specs.Mailing.{incoming_message}
-use Rattle.ctl_face.specs.Pop.{mail_without}
-use Rattle.ctl_face.specs.Stall.{mail_with_waiting, message_waiting_under}
+use Rattle.ctl_face.specs.Inbox.{with_message}
 use Rattle.ctl_face.proofs.Held.{nothing-there}
 use Rattle.ctl_face.proofs.Inboxes.{ascend-with}
 use Rattle.ctl_face.proofs.OneKey.{changed_message-contains, with_message-contains}
 use Rattle.ctl_mail.specs.declared.act.MailAct.TheVariants.{Stall}
 use Rattle.ctl_mail.specs.declared.store.MailStore.{MailStore}
-use Rattle.ctl_mail.specs.Inbox.{Has, Holds, IsAt, inbox_of}
-use Rattle.ctl_mail.specs.Least.{IsFree}
-use Rattle.ctl_mail.specs.MailOf.{IsMail, IsNewIn, buffer_count, mail_of}
-use Rattle.ctl_mail.specs.MailView.{view_after_front, view_stalled}
-use Rattle.ctl_mail.specs.Queues.{Queues}
-use Rattle.ctl_mail.specs.Told.{AreOf, Reflects, Told, after_act, changed_mail, changed_view, mail_at_front}
+use Rattle.ctl_mail.specs.Prelude.{Has, Holds, IsAt, inbox_of, IsFree, IsMail, IsNewIn, buffer_count, mail_of, view_after_front, view_stalled, Queues, AreOf, Reflects, Told, after_act, changed_mail, changed_view, mail_at_front}
 use Rattle.ctl_mail.proofs.SentActs.{fits-act}
 use Rattle.ctl_mail.proofs.Acts.{after-more, front-free}
 use Rattle.ctl_mail.proofs.Changed.{ascend-changed, readded}

@@ -4,10 +4,8 @@ use Rattle.std.specs.List.{list_all}
 use Rattle.ruby_value.specs.declared.fault.Fault.{Fault}
 use Rattle.ruby_value.specs.declared.fault.Fault.TheVariants.{Copies, Route}
 use Rattle.ruby_value.specs.declared.value.Value.{Value}
-use Rattle.ctl_face.specs.LocalView.{Actor}
-use Rattle.ctl_face.specs.Send.{copy_limit, network_copies}
-use Rattle.ctl_mail.specs.MailView.{MailView}
-use Rattle.ctl_mail.specs.Sends.{copies_to_all, is_routed, view_after_sending, view_with_copies}
+use Rattle.ctl_face.specs.Prelude.{Actor, copy_limit, network_copies}
+use Rattle.ctl_mail.specs.Prelude.{MailView, copies_to_all, is_routed, view_after_sending, view_with_copies}
 
 module _ (actor : Actor) (network latency now : ℕ) (members : List ℕ) (v : MailView) (fields : List Value) where
   abbrev sent_so : Bool → Bool → Result MailView Fault

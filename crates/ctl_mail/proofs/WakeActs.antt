@@ -5,25 +5,17 @@ use Rattle.std.proofs.lemmas.List.Elements.{All-contains, All-map}
 use Rattle.std.proofs.lemmas.List.Kept.{AllPairs-cons, AllPairs-filter}
 use Rattle.std.specs.List.{AllPairs}
 use Rattle.ruby_value.specs.declared.message.MsgNo.{MsgNo}
-use Rattle.ruby_value.specs.NumberBefore.{number_before}
+use Rattle.ruby_value.specs.Prelude.{number_before}
 use Rattle.ruby_value.proofs.Contained.{Contains-cons_cases, Contains-cons_here, Contains-cons_there}
 use Rattle.ruby_value.proofs.Ordered.{AllPairs-head, AllPairs-nil, AllPairs-tail}
 use Rattle.stall_map.specs.declared.stalled.Stalled.{Stalled}
-use Rattle.ctl_face.specs.Ctl.{InboxMessage, Mail}
-use Rattle.ctl_face.specs.Fits.{NumbersAscend}
-use Rattle.ctl_face.specs.Wake.{message_waiting_no_longer, numbers_where, woken_mail}
+use Rattle.ctl_face.specs.Prelude.{InboxMessage, Mail, NumbersAscend, message_waiting_no_longer, numbers_where, woken_mail}
 use Rattle.ctl_face.proofs.Held.{from-filter, from-map, in-filter, nothing-there, to-map}
 use Rattle.ctl_face.proofs.Inboxes.{Before, ascend-map}
 use Rattle.ctl_mail.specs.declared.moves.Waking.{Waking}
 use Rattle.ctl_mail.specs.declared.moves.Waking.TheVariants.{All, Line}
 use Rattle.ctl_mail.specs.declared.store.MailStore.{MailStore}
-use Rattle.ctl_mail.specs.Inbox.{Holds, IsAt}
-use Rattle.ctl_mail.specs.MailOf.{mail_of}
-use Rattle.ctl_mail.specs.MailView.{view_woken}
-use Rattle.ctl_mail.specs.Moves.{act_of, is_woken, moves_back, waiting_after}
-use Rattle.ctl_mail.specs.Numbers.{Adds, NumbersRise}
-use Rattle.ctl_mail.specs.Queues.{Queues}
-use Rattle.ctl_mail.specs.Told.{AreOf, IsGone, IsSeen, IsWokenIn, IsWokenMoved, IsWokenStalled, Reflects, Told, after_act, changed_mail, changed_view}
+use Rattle.ctl_mail.specs.Prelude.{Holds, IsAt, mail_of, view_woken, act_of, is_woken, moves_back, waiting_after, Adds, NumbersRise, Queues, AreOf, IsGone, IsSeen, IsWokenIn, IsWokenMoved, IsWokenStalled, Reflects, Told, after_act, changed_mail, changed_view}
 use Rattle.ctl_mail.proofs.SentActs.{IsUncounted, fits-act}
 use Rattle.ctl_mail.proofs.Acts.{after-more}
 use Rattle.ctl_mail.proofs.AfterMoves.{has-entry, with-entry}

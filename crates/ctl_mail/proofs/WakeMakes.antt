@@ -7,21 +7,16 @@ use Rattle.std.specs.declared.vec.Vec.{Vec}
 use Rattle.ruby_value.specs.declared.message.Message.{Message}
 use Rattle.ruby_value.specs.declared.message.MsgNo.{MsgNo}
 use Rattle.ruby_value.proofs.Contained.{Contains-cons_here, Contains-cons_there}
-use Rattle.ruby_value.specs.IsBefore.{IsBefore}
-use Rattle.ruby_value.specs.Roomy.{Roomy}
+use Rattle.ruby_value.specs.Prelude.{IsBefore, Roomy}
 use Rattle.stall_map.specs.declared.stalled.Stalled.{Stalled}
-use Rattle.stall_map.specs.Stalls.{Ascends, is_under, messages_under, without_line}
-use Rattle.msg_buffer.specs.Queue.{IsNew}
-use Rattle.ctl_face.specs.Ctl.{InboxMessage, Mail}
+use Rattle.stall_map.specs.Prelude.{Ascends, is_under, messages_under, without_line}
+use Rattle.msg_buffer.specs.Prelude.{IsNew}
+use Rattle.ctl_face.specs.Prelude.{InboxMessage, Mail, message_waiting_no_longer, woken_mail, incoming_message}
 use Rattle.ctl_face.specs.Wake as face
-use Rattle.ctl_face.specs.Wake.{message_waiting_no_longer, woken_mail}
-use Rattle.ctl_face.specs.Mailing.{incoming_message}
 use Rattle.ctl_face.proofs.Held.{from-filter, from-map, in-filter, nothing-there, to-map}
 use Rattle.ctl_face.proofs.Inboxes.{ascend-map}
 use Rattle.ctl_mail.specs.declared.store.MailStore.{MailStore}
-use Rattle.ctl_mail.specs.Inbox.{Has, Holds, IsAt, inbox_of}
-use Rattle.ctl_mail.specs.MailOf.{IsMail, mail_of}
-use Rattle.ctl_mail.specs.Queues.{Queues, queue_of, room_of}
+use Rattle.ctl_mail.specs.Prelude.{Has, Holds, IsAt, inbox_of, IsMail, mail_of, Queues, queue_of, room_of}
 use Rattle.ctl_mail.proofs.Backs.{Apart}
 use Rattle.ctl_mail.proofs.Inboxes.{becomes, inbox-ascends, inbox-has}
 use Rattle.ctl_mail.proofs.Rises.{filters-apart}

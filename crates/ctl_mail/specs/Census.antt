@@ -2,7 +2,7 @@
 -- if it was recycled at any time, and else as queued. So each counts once. A count beyond 64 bits is told as the greatest number
 -- of 64 bits.
 use Rattle.std.specs.Prelude.{◌-◌, ◌^◌, ℕ, Bool, ◌&&◌, is_none, is_some, min, not}
-use Rattle.ctl_face.specs.Ctl.{InboxMessage}
+use Rattle.ctl_face.specs.Prelude.{InboxMessage}
 
 abbrev pub is_queued : InboxMessage → Bool
 is_queued o = is_none o.waiting && not o.message.recycled

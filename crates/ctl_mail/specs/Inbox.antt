@@ -4,9 +4,8 @@ use Rattle.std.specs.Prelude.{◌≡◌, ◌<◌, ◌++◌, ℕ, Option, None, S
 use Rattle.std.specs.List.{fold}
 use Rattle.ruby_value.specs.declared.message.Message.{Message}
 use Rattle.stall_map.specs.declared.stalled.Stalled.{Stalled}
-use Rattle.ctl_face.specs.Ctl.{InboxMessage}
+use Rattle.ctl_face.specs.Prelude.{InboxMessage, incoming_message}
 use Rattle.ctl_face.specs.Inbox.{with_message}
-use Rattle.ctl_face.specs.Mailing.{incoming_message}
 use Rattle.ctl_mail.specs.Queues.{Queues, queue_of}
 
 abbrev pub waiting_message : Stalled → InboxMessage

@@ -4,9 +4,8 @@ use Rattle.std.specs.Prelude.{◌≡◌, ◌≤◌, ◌⊎◌, ℕ, Option, None
 use Rattle.ruby_value.specs.declared.message.Message.{Message}
 use Rattle.ruby_value.specs.declared.message.MsgNo.{MsgNo}
 use Rattle.stall_map.specs.declared.stalled.Stalled.{Stalled}
-use Rattle.ctl_face.specs.Ctl.{InboxMessage}
-use Rattle.ctl_face.specs.Mailing.{incoming_message}
-use Rattle.msg_buffer.specs.Queue.{ComesBefore, comes_before}
+use Rattle.ctl_face.specs.Prelude.{InboxMessage, incoming_message}
+use Rattle.msg_buffer.specs.Prelude.{ComesBefore, comes_before}
 use Rattle.ctl_mail.specs.Queues.{Queues, queue_of}
 use Rattle.ctl_mail.specs.Told.{IsFreeNow, IsOut, Told}
 

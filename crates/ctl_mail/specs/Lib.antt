@@ -12,3 +12,4 @@ pub mod Room
 pub mod Sends
 pub mod Sent
 pub mod Told
+pub mod Prelude

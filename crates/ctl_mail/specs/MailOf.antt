@@ -3,11 +3,9 @@
 use Rattle.std.specs.Prelude.{◌≢◌, ℕ, length, map}
 use Rattle.std.specs.List.{All}
 use Rattle.std.specs.List.Sorted.{IsStrictlyIncreasing}
-use Rattle.ruby_value.specs.Ascending.{marks_from}
+use Rattle.ruby_value.specs.Prelude.{marks_from, Roomy}
 use Rattle.ruby_value.specs.declared.message.MsgNo.{MsgNo}
-use Rattle.ruby_value.specs.Roomy.{Roomy}
-use Rattle.ctl_face.specs.Ctl.{InboxMessage, Mail}
-use Rattle.ctl_face.specs.Lasts.{Lasts}
+use Rattle.ctl_face.specs.Prelude.{InboxMessage, Mail, Lasts}
 use Rattle.ctl_mail.specs.declared.store.MailStore.{MailStore}
 use Rattle.ctl_mail.specs.Inbox.{Holds, inbox_of}
 

@@ -3,15 +3,7 @@
 use Rattle.std.specs.Prelude.{◌≡◌, ◌+◌, ◌++◌, ℕ, ℤ, Bool, true, [], ◌∷◌, Result, Ok, Err, is_some}
 use Rattle.ruby_value.specs.declared.fault.Fault.{Fault}
 use Rattle.ruby_value.specs.declared.message.MsgNo.{MsgNo}
-use Rattle.ctl_face.specs.Acts.{Acts}
-use Rattle.ctl_face.specs.AtFront.{AtFront}
-use Rattle.ctl_face.specs.Ctl.{InboxMessage, Mail}
-use Rattle.ctl_face.specs.LocalView.{LocalView}
-use Rattle.ctl_face.specs.Mailing.{mail_with_mark}
-use Rattle.ctl_face.specs.Pop.{popped_mail}
-use Rattle.ctl_face.specs.Recycle.{recycled_mail}
-use Rattle.ctl_face.specs.Stall.{stalled_mail}
-use Rattle.ctl_face.specs.Wake.{is_under, numbers_where, woken_mail}
+use Rattle.ctl_face.specs.Prelude.{Acts, AtFront, InboxMessage, Mail, LocalView, mail_with_mark, popped_mail, recycled_mail, stalled_mail, is_under, numbers_where, woken_mail}
 use Rattle.ctl_face.specs.declared.trouble.Trouble.{Trouble}
 use Rattle.ctl_face.specs.declared.trouble.Trouble.TheVariants as trouble
 

@@ -3,8 +3,8 @@
 use Rattle.std.specs.Prelude.{ℕ, Bool, Option, None, List, map, is_some, if◌then◌else◌}
 use Rattle.std.specs.List.{fold}
 use Rattle.ruby_value.specs.declared.message.MsgNo.{MsgNo}
-use Rattle.ruby_value.specs.NumberBefore.{same_number}
-use Rattle.ctl_face.specs.Wake.{is_under}
+use Rattle.ruby_value.specs.Prelude.{same_number}
+use Rattle.ctl_face.specs.Prelude.{is_under}
 use Rattle.ctl_mail.specs.declared.act.MailAct.{MailAct}
 use Rattle.ctl_mail.specs.declared.act.MailAct.TheVariants.{Wake, WakeAll}
 use Rattle.ctl_mail.specs.declared.moves.Move.{Move}

@@ -1,7 +1,7 @@
 -- The messages of a controller's buffers, by the buffers' numbers, and what an act on one buffer changes.
 use Rattle.std.specs.Prelude.{◌≡◌, ◌≢◌, ◌≤◌, ◌+◌, ℕ, Option, None, Some, List, [], slice_get}
 use Rattle.ruby_value.specs.declared.message.Message.{Message}
-use Rattle.ruby_value.specs.Roomy.{Roomy}
+use Rattle.ruby_value.specs.Prelude.{Roomy}
 
 abbrev pub Queues : Type 0
 Queues = List (Roomy (List Message))

@@ -1,8 +1,8 @@
 -- The room that a mail has: for how many more messages, marks and last arrivals.
 use Rattle.std.specs.Prelude.{◌+◌, ◌-◌, ◌≤◌, ◌<◌, ℕ, Bool, true, false, List, IfSome, count_by, length, slice_get, vec_capacity, vec_len}
 use Rattle.std.specs.List.{All}
-use Rattle.ruby_value.specs.Roomy.{Roomy}
-use Rattle.ctl_face.specs.Lasts.{Lasts}
+use Rattle.ruby_value.specs.Prelude.{Roomy}
+use Rattle.ctl_face.specs.Prelude.{Lasts}
 use Rattle.ctl_mail.specs.declared.act.MailAct.{MailAct}
 use Rattle.ctl_mail.specs.declared.act.MailAct.TheVariants.{Arrive, LocalLast, NetworkLast, Stall, Wake, WakeAll}
 use Rattle.ctl_mail.specs.declared.store.MailStore.{MailStore}

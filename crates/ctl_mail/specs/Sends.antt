@@ -5,20 +5,14 @@ use Rattle.std.specs.List.{All, filter, fold}
 use Rattle.ruby_value.specs.declared.fault.Fault.{Fault}
 use Rattle.ruby_value.specs.declared.setup.MachineSetup.{MachineSetup}
 use Rattle.ruby_value.specs.declared.value.Value.{Value}
-use Rattle.ctl_face.specs.Acts.{sent_of}
-use Rattle.ctl_face.specs.Ctl.{InboxMessage, Mail}
-use Rattle.ctl_face.specs.Enqueue.{for_others}
-use Rattle.ctl_face.specs.LocalView.{Actor}
-use Rattle.ctl_face.specs.Send.{Sending, copy_limit, has_jitter, no_copies, send, with_network_copy}
+use Rattle.ctl_face.specs.Prelude.{sent_of, InboxMessage, Mail, for_others, Actor, Sending, copy_limit, has_jitter, no_copies, send, with_network_copy, receiving_buffer}
 use Rattle.ctl_mail.specs.declared.changes.MailChanges.{MailChanges}
 use Rattle.ctl_mail.specs.declared.store.MailStore.{MailStore}
 use Rattle.ctl_mail.specs.MailOf.{mail_of}
 use Rattle.ctl_mail.specs.MailView.{MailView}
 use Rattle.ctl_mail.specs.Told.{changed_mail, changed_view, told_by}
 use Rattle.ctl_face.specs.declared.routes.Routes.{Routes}
-use Rattle.ctl_face.specs.Routing.{receiving_buffer}
-use Rattle.pcg_words.specs.Below.{below}
-use Rattle.pcg_words.specs.Position.{Position}
+use Rattle.pcg_words.specs.Prelude.{below, Position}
 
 -- the mail, and what was done in it, as the changes of a scan leave it
 abbrev pub mail_after : MailStore → MailChanges → Mail

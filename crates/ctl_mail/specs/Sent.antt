@@ -5,8 +5,7 @@ use Rattle.std.specs.VecDeque.{deque_capacity, deque_len}
 use Rattle.ruby_value.specs.declared.value.Value.{Value}
 use Rattle.ruby_value.specs.declared.message.Delivery.{Delivery}
 use Rattle.ruby_value.specs.declared.message.Message.{Message}
-use Rattle.ctl_face.specs.Acts.{sent_of}
-use Rattle.ctl_face.specs.Enqueue.{for_others}
+use Rattle.ctl_face.specs.Prelude.{sent_of, for_others}
 use Rattle.ctl_mail.specs.declared.act.MailAct.{MailAct}
 use Rattle.ctl_mail.specs.declared.act.MailAct.TheVariants.{Arrive, Count, LocalLast, NetworkLast}
 use Rattle.ctl_mail.specs.declared.changes.MailChanges.{MailChanges}

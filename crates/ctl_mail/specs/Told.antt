@@ -8,19 +8,9 @@ use Rattle.ruby_value.specs.declared.fault.Fault.{Fault}
 use Rattle.ruby_value.specs.declared.message.MsgNo.{MsgNo}
 use Rattle.ruby_value.specs.declared.message.Message.{Message}
 use Rattle.stall_map.specs.declared.stalled.Stalled.{Stalled}
-use Rattle.ctl_face.specs.Acts.{Acts}
+use Rattle.ctl_face.specs.Prelude.{Acts, AtFront, at_front, InboxMessage, Mail, NumbersAscend, with_last, mail_with_mark, mail_with_arrival, front, popped_mail, mail_with_recycled, stalled_mail, is_under, woken_mail}
 use Rattle.ruby_value.specs.declared.message.Delivery.{Delivery}
 use Rattle.ruby_value.specs.declared.message.Sent.{Sent}
-use Rattle.ctl_face.specs.AtFront.{AtFront, at_front}
-use Rattle.ctl_face.specs.Ctl.{InboxMessage, Mail}
-use Rattle.ctl_face.specs.Fits.{NumbersAscend}
-use Rattle.ctl_face.specs.Lasts.{with_last}
-use Rattle.ctl_face.specs.Mailing.{mail_with_mark, mail_with_arrival}
-use Rattle.ctl_face.specs.Front.{front}
-use Rattle.ctl_face.specs.Pop.{popped_mail}
-use Rattle.ctl_face.specs.Recycle.{mail_with_recycled}
-use Rattle.ctl_face.specs.Stall.{stalled_mail}
-use Rattle.ctl_face.specs.Wake.{is_under, woken_mail}
 use Rattle.ctl_mail.specs.declared.act.MailAct.{MailAct}
 use Rattle.ctl_mail.specs.declared.act.MailAct.TheVariants.{Arrive, Count, LocalLast, Mark, NetworkLast, Pop, Recycle, Stall, Wake, WakeAll}
 use Rattle.ctl_mail.specs.declared.changes.MailChanges.{MailChanges}

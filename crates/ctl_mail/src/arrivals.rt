@@ -1,10 +1,8 @@
 // When the copies of a send arrive, and the words that are drawn for them.
 ghost use Rattle.std.specs.Prelude.{◌≡◌, ◌≤◌, ◌<◌, ◌+◌, ◌^◌, slice_get};
 ghost use Rattle.std.specs.Option.{option_copied};
-ghost use Rattle.ctl_face.specs.Lasts.{last_at, lasts_on};
-ghost use Rattle.ctl_face.specs.RoutesFit.{AreWithinLimits};
-ghost use Rattle.ctl_face.specs.SendAdds.{arrival_after};
-ghost use Rattle.ctl_mail.specs.Sends.{AreNext, actor_of, drawn_after, jitter_at, mail_after};
+ghost use Rattle.ctl_face.specs.Prelude.{last_at, lasts_on, AreWithinLimits, arrival_after};
+ghost use Rattle.ctl_mail.specs.Prelude.{AreNext, actor_of, drawn_after, jitter_at, mail_after};
 
 use crate::{MailChanges, MailStore};
 use ctl_face::Routes;

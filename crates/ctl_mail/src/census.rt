@@ -1,9 +1,9 @@
 // How many messages a mail has.
 ghost use Rattle.std.specs.Prelude.{◌≡◌, List, count_by, not, sum_by};
 ghost use Rattle.std.specs.List.{All};
-ghost use Rattle.ruby_value.specs.declared.message.Message.{Message as MessageRecord};
-ghost use Rattle.ruby_value.specs.Roomy.{Roomy};
-ghost use Rattle.msg_buffer.specs.Queue.{IsQueue};
+ghost use Rattle.ruby_value.specs.declared.message.Message.{Message};
+ghost use Rattle.ruby_value.specs.Prelude.{Roomy};
+ghost use Rattle.msg_buffer.specs.Prelude.{IsQueue};
 ghost use Rattle.ctl_mail.specs.Census.{capped, is_queued, is_recycled, is_stalled};
 ghost use Rattle.ctl_mail.specs.MailOf.{IsMail, mail_of};
 
@@ -13,8 +13,8 @@ use msg_buffer::Buffer;
 // How many messages of a buffer weren't recycled, and how many were.
 fn count_buffer(queue: &Buffer) -> (u64, u64)
     ensures order { IsQueue queue.now.kept }
-    ensures queued { result.0 ≡ count_by (λ (m : MessageRecord). not m.recycled) queue.now.kept }
-    ensures recycled { result.1 ≡ count_by (λ (m : MessageRecord). m.recycled) queue.now.kept }
+    ensures queued { result.0 ≡ count_by (λ (m : Message). not m.recycled) queue.now.kept }
+    ensures recycled { result.1 ≡ count_by (λ (m : Message). m.recycled) queue.now.kept }
 {
     let all = queue.len();
     let recycled = queue.count_recycled();
@@ -23,9 +23,9 @@ fn count_buffer(queue: &Buffer) -> (u64, u64)
 
 // How many messages of some buffers weren't recycled, and how many were.
 fn count_buffers(buffers: &[Buffer]) -> (u64, u64)
-    ensures order { All (λ (q : Roomy (List MessageRecord)). IsQueue q.kept) buffers.now }
-    ensures queued { result.0 ≡ capped (sum_by (λ (q : Roomy (List MessageRecord)). count_by (λ (m : MessageRecord). not m.recycled) q.kept) buffers.now) }
-    ensures recycled { result.1 ≡ capped (sum_by (λ (q : Roomy (List MessageRecord)). count_by (λ (m : MessageRecord). m.recycled) q.kept) buffers.now) }
+    ensures order { All (λ (q : Roomy (List Message)). IsQueue q.kept) buffers.now }
+    ensures queued { result.0 ≡ capped (sum_by (λ (q : Roomy (List Message)). count_by (λ (m : Message). not m.recycled) q.kept) buffers.now) }
+    ensures recycled { result.1 ≡ capped (sum_by (λ (q : Roomy (List Message)). count_by (λ (m : Message). m.recycled) q.kept) buffers.now) }
 {
     let mut queued: u64 = 0;
     let mut recycled: u64 = 0;

@@ -1,6 +1,6 @@
 ghost use Rattle.std.specs.Prelude.{◌≡◌, ◌++◌, [], ◌∷◌, ◌↔◌, true, OnOk, OnErr, Contains, IsTrue};
-ghost use Rattle.ruby_value.specs.declared.message.MsgNo.{MsgNo as MsgNoRecord};
-ghost use Rattle.ctl_face.specs.ScanView.{no_acts};
+ghost use Rattle.ruby_value.specs.declared.message.MsgNo.{MsgNo};
+ghost use Rattle.ctl_face.specs.Prelude.{no_acts};
 ghost use Rattle.ctl_mail.specs.declared.act.MailAct.TheVariants as act;
 ghost use Rattle.ctl_mail.specs.MailOf.{IsMail, mail_of};
 ghost use Rattle.ctl_mail.specs.Told.{AreOf, IsGone, counts_in, told_by};

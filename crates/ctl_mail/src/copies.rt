@@ -1,11 +1,8 @@
 // The copies of a send, kept as changes of a scan, where there is room.
 ghost use Rattle.std.specs.Prelude.{◌≡◌, ◌≤◌, ◌+◌, ◌*◌, ◌^◌, ℕ, All, IfOk, length};
-ghost use Rattle.ctl_face.specs.declared.routes.Routes.{Routes as RoutesRecord};
-ghost use Rattle.ctl_face.specs.RoutesFit.{AreWithinLimits};
-ghost use Rattle.ctl_face.specs.Send.{local_copy};
-ghost use Rattle.ctl_mail.specs.Sends.{AreNext, HaveNext, MaySend, actor_of, copies_to_all, mail_after, view_after, view_with_copies, view_with_network_copy};
-ghost use Rattle.ctl_mail.specs.Sent.{HasSpace};
-ghost use Rattle.ctl_mail.specs.Told.{AreOf, told_by};
+ghost use Rattle.ctl_face.specs.declared.routes.Routes.{Routes};
+ghost use Rattle.ctl_face.specs.Prelude.{AreWithinLimits, local_copy};
+ghost use Rattle.ctl_mail.specs.Prelude.{AreNext, HaveNext, MaySend, actor_of, copies_to_all, mail_after, view_after, view_with_copies, view_with_network_copy, HasSpace, AreOf, told_by};
 
 use crate::arrivals::{local_arrival, network_arrival, next_jitter, words_from};
 use crate::{MailAct, MailChanges, MailStore};
@@ -125,7 +122,7 @@ pub(crate) fn copy_to_itself(
     requires latency { (1 ≤ latency) × latency ≤ 1000000 }
     requires may { MaySend me changes.old.cycle 1 (mail_after store.now changes.old) }
     requires space { HasSpace changes.old 3 1 }
-    ensures after { (seed : ℕ) (routes : RoutesRecord) → let actor = actor_of me seed routes in
+    ensures after { (seed : ℕ) (routes : Routes) → let actor = actor_of me seed routes in
         let old = view_after store.now changes.old in
         view_after store.now changes.new ≡ view_with_copies me old
         (local_copy actor ordered old.mail buffer latency fields changes.old.cycle) }

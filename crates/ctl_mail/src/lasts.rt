@@ -1,11 +1,9 @@
 // The last arrivals that later copies may not come before.
 ghost use Rattle.std.specs.Prelude.{◌≡◌, ◌+◌, ◌≤◌, ℕ, IfOk, OnOk, map, replicate};
 ghost use Rattle.std.specs.FinMap.{empty};
-ghost use Rattle.ruby_value.specs.Roomy.{Roomy};
-ghost use Rattle.ctl_face.specs.IsMachine.{network_count};
-ghost use Rattle.ctl_face.specs.Lasts.{Lasts, with_last};
-ghost use Rattle.ctl_mail.specs.Lasts.{lasts_in};
-ghost use Rattle.ctl_mail.specs.Room.{HasLastRoom};
+ghost use Rattle.ruby_value.specs.Prelude.{Roomy};
+ghost use Rattle.ctl_face.specs.Prelude.{network_count, Lasts, with_last};
+ghost use Rattle.ctl_mail.specs.Prelude.{lasts_in, HasLastRoom};
 
 use ruby_value::{LineMap, NoMemory};
 use std::alloc::Global;

@@ -1,10 +1,7 @@
 // The acts on mail, made in a controller's mail as it is kept. They take no memory.
 ghost use Rattle.std.specs.Prelude.{◌≡◌, ◌<◌, ◌≤◌, ◌+◌, ℕ, [], ◌∷◌, true, IfNone, IfSome, OnOk, All, count_by, length};
 ghost use Rattle.std.specs.FinMap as finite;
-ghost use Rattle.ctl_face.specs.Front.{front};
-ghost use Rattle.ctl_face.specs.Lasts.{with_last};
-ghost use Rattle.ctl_face.specs.Mailing.{mail_with_mark, mail_with_arrival};
-ghost use Rattle.ctl_face.specs.Pop.{mail_without};
+ghost use Rattle.ctl_face.specs.Prelude.{front, with_last, mail_with_mark, mail_with_arrival, mail_without};
 ghost use Rattle.ctl_mail.specs.declared.act.MailAct.TheVariants as act;
 ghost use Rattle.ctl_mail.specs.MailOf.{IsMail, IsNewIn, buffer_count, mail_of};
 ghost use Rattle.ctl_mail.specs.Queues.{LosesNoRoom, LosesOneRoom, room_of};

@@ -1,7 +1,7 @@
 // The buffers of a controller, each by its number.
 ghost use Rattle.std.specs.Prelude.{◌≡◌, ◌<◌, ◌≤◌, ℕ, [], IfOk, IfSome, IfNone, OnOk, length};
-ghost use Rattle.msg_buffer.specs.Queue.{IsNew, front, with_message, without_message};
-ghost use Rattle.ctl_mail.specs.Queues.{LosesNoRoom, LosesOneRoom, Replaces, queue_of, room_of};
+ghost use Rattle.msg_buffer.specs.Prelude.{IsNew, front, with_message, without_message};
+ghost use Rattle.ctl_mail.specs.Prelude.{LosesNoRoom, LosesOneRoom, Replaces, queue_of, room_of};
 
 use msg_buffer::{Buffer, Message};
 use ruby_value::NoMemory;

@@ -2,12 +2,8 @@
 ghost use Rattle.std.specs.Prelude.{◌≡◌, ◌<◌, ◌↔◌, None, Some, IsTrue, is_some, length, slice_get};
 ghost use Rattle.std.specs.Option.{ok_or, option_copied};
 ghost use Rattle.ruby_value.specs.declared.fault.Fault.TheVariants as fault;
-ghost use Rattle.ctl_face.specs.Does.{Reads};
-ghost use Rattle.ctl_face.specs.Front.{front};
-ghost use Rattle.ctl_mail.specs.Least.{IsBack, IsBackAt, IsBackNow, IsEither, IsLeast, IsLeftIn, first_of_two};
-ghost use Rattle.ctl_mail.specs.MailOf.{IsMail, mail_of};
-ghost use Rattle.ctl_mail.specs.Queues.{queue_of};
-ghost use Rattle.ctl_mail.specs.Told.{AreOf, IsOut, changed_mail, told_by};
+ghost use Rattle.ctl_face.specs.Prelude.{Reads, front};
+ghost use Rattle.ctl_mail.specs.Prelude.{IsBack, IsBackAt, IsBackNow, IsEither, IsLeast, IsLeftIn, first_of_two, IsMail, mail_of, queue_of, AreOf, IsOut, changed_mail, told_by};
 
 use crate::{MailChanges, MailStore};
 use ctl_face::{Fault, Trouble};

@@ -1,9 +1,7 @@
 // The acts on mail of a scan, kept as its changes.
 ghost use Rattle.std.specs.Prelude.{◌≡◌, ◌≤◌, ◌^◌, None, Ok, Some, IfSome, nat_abs, if◌then◌else◌};
-ghost use Rattle.ctl_face.specs.Latency.{is_latency};
-ghost use Rattle.ctl_mail.specs.MailOf.{IsMail, mail_of};
-ghost use Rattle.ctl_mail.specs.MailView.{MailDoes, view_again, view_popped, view_recycled};
-ghost use Rattle.ctl_mail.specs.Told.{AreOf, changed_view, told_by};
+ghost use Rattle.ctl_face.specs.Prelude.{is_latency};
+ghost use Rattle.ctl_mail.specs.Prelude.{IsMail, mail_of, MailDoes, view_again, view_popped, view_recycled, AreOf, changed_view, told_by};
 
 use crate::{MailChanges, MailStore, peek};
 use ctl_face::{Fault, Trouble};

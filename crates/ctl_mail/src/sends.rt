@@ -2,13 +2,9 @@
 ghost use Rattle.std.specs.Prelude.{◌≡◌, ◌≤◌, ◌+◌, ◌^◌, ℕ, [], IfOk, true, unwrap_or};
 ghost use Rattle.std.specs.List.{list_all};
 ghost use Rattle.ruby_value.specs.declared.setup.BufferPlace.TheVariants as place;
-ghost use Rattle.ctl_face.specs.declared.routes.Routes.{Routes as RoutesRecord};
-ghost use Rattle.ctl_face.specs.Fits.{FitsMail};
-ghost use Rattle.ctl_face.specs.RoutesFit.{AreWithinLimits};
-ghost use Rattle.ctl_face.specs.Send.{network_copies, receivers_of, sending_on};
-ghost use Rattle.ctl_mail.specs.MailView.{MailDoes};
-ghost use Rattle.ctl_mail.specs.Sends.{HaveNext, MaySend, actor_of, is_routed, mail_after, view_after, view_after_sending, view_sent};
-ghost use Rattle.ctl_mail.specs.Told.{AreOf, told_by};
+ghost use Rattle.ctl_face.specs.declared.routes.Routes.{Routes};
+ghost use Rattle.ctl_face.specs.Prelude.{FitsMail, AreWithinLimits, network_copies, receivers_of, sending_on};
+ghost use Rattle.ctl_mail.specs.Prelude.{MailDoes, HaveNext, MaySend, actor_of, is_routed, mail_after, view_after, view_after_sending, view_sent, AreOf, told_by};
 
 use crate::copies::{clones_of, copy_to_all, copy_to_itself};
 use crate::scan::latency_of;
@@ -110,7 +106,7 @@ fn send_to_itself(
     requires cycle { changes.old.cycle ≤ 10 ^ 12 }
     requires latency { (1 ≤ latency) × latency ≤ 1000000 }
     requires may { MaySend me changes.old.cycle 0 (mail_after store.now changes.old) }
-    ensures does { (seed : ℕ) (routes : RoutesRecord) → let actor = actor_of me seed routes in
+    ensures does { (seed : ℕ) (routes : Routes) → let actor = actor_of me seed routes in
         let old = view_after store.now changes.old in
         let now = changes.old.cycle in
         let sent = sending_on place.Local ordered actor old.mail buffer latency fields now in

@@ -1,7 +1,6 @@
 ghost use Rattle.std.specs.Prelude.{◌≡◌, ◌<◌, ◌≤◌, ◌+◌, ℕ, not, nat_lt, IfOk, OnOk};
 ghost use Rattle.std.specs.List.{find};
-ghost use Rattle.ctl_face.specs.Mailing.{mail_with_mark, mail_with_arrival};
-ghost use Rattle.ctl_face.specs.Opening.{no_mail};
+ghost use Rattle.ctl_face.specs.Prelude.{mail_with_mark, mail_with_arrival, no_mail};
 ghost use Rattle.ctl_mail.specs.MailOf.{IsMail, buffer_count, IsNewIn, mail_at_cycle, mail_of};
 ghost use Rattle.ctl_mail.specs.Marks.{IsNextMark};
 ghost use Rattle.ctl_mail.specs.Room.{HasRoomFor, mark_room};

@@ -1,14 +1,11 @@
 // Messages that wait are woken in the mail as it is kept. It takes no memory.
 ghost use Rattle.std.specs.Prelude.{◌≡◌, ◌≢◌, ◌⊎◌, ◌↔◌, ◌≤◌, ◌+◌, [], ℕ, IfSome, IfNone, Contains, length, is_some};
 ghost use Rattle.std.specs.List.{All, AllPairs};
-ghost use Rattle.ruby_value.specs.declared.message.Message.{Message as MessageRecord};
-ghost use Rattle.stall_map.specs.Stalls.{without_line};
-ghost use Rattle.msg_buffer.specs.Queue.{IsNew};
-ghost use Rattle.ctl_face.specs.Ctl.{InboxMessage};
-ghost use Rattle.ctl_face.specs.Wake.{is_under, woken_mail};
-ghost use Rattle.ctl_mail.specs.MailOf.{IsMail, buffer_count, mail_of};
-ghost use Rattle.ctl_mail.specs.Queues.{queue_of, room_of};
-ghost use Rattle.ctl_mail.specs.Room.{HasPlacesToWake, LosesPlaces, mark_room};
+ghost use Rattle.ruby_value.specs.declared.message.Message.{Message};
+ghost use Rattle.stall_map.specs.Prelude.{without_line};
+ghost use Rattle.msg_buffer.specs.Prelude.{IsNew};
+ghost use Rattle.ctl_face.specs.Prelude.{InboxMessage, is_under, woken_mail};
+ghost use Rattle.ctl_mail.specs.Prelude.{IsMail, buffer_count, mail_of, queue_of, room_of, HasPlacesToWake, LosesPlaces, mark_room};
 
 use crate::{MailStore, queues};
 use msg_buffer::{Buffer, Message};
@@ -16,10 +13,10 @@ use stall_map::StallMap;
 
 // Puts messages with new numbers back into their buffers.
 fn put_back(buffers: &mut Vec<Buffer>, mut woken: Vec<Message>)
-    requires apart { AllPairs (λ (a b : MessageRecord). a.number ≢ b.number) woken.items }
-    requires new { All (λ (m : MessageRecord). IsNew (queue_of buffers.old.items m.buffer) m.number) woken.items }
-    requires room { All (λ (m : MessageRecord). length woken.items ≤ room_of buffers.old.items m.buffer) woken.items }
-    ensures queues { (buffer : ℕ) (m : MessageRecord)
+    requires apart { AllPairs (λ (a b : Message). a.number ≢ b.number) woken.items }
+    requires new { All (λ (m : Message). IsNew (queue_of buffers.old.items m.buffer) m.number) woken.items }
+    requires room { All (λ (m : Message). length woken.items ≤ room_of buffers.old.items m.buffer) woken.items }
+    ensures queues { (buffer : ℕ) (m : Message)
         → Contains (queue_of buffers.new.items buffer) m
         ↔ (Contains (queue_of buffers.old.items buffer) m ⊎ (Contains woken.items m × (m.buffer ≡ buffer))) }
     ensures count { length buffers.new.items ≡ length buffers.old.items }
@@ -51,7 +48,7 @@ pub(crate) fn make_wake(store: &mut MailStore, line: u64)
 
 // The line of the first message that waits, or `None` exactly where none does.
 fn first_line(stalls: &StallMap) -> Option<u64>
-    ensures some { IfSome result (λ line. (m : MessageRecord) × Contains stalls.now.kept (record { line = line; message = m })) }
+    ensures some { IfSome result (λ line. (m : Message) × Contains stalls.now.kept (record { line = line; message = m })) }
     ensures none { IfNone result (stalls.now.kept ≡ []) }
 {
     if stalls.len() == 0 {

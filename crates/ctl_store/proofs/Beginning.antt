@@ -4,27 +4,19 @@ use Rattle.ruby_value.specs.declared.asked.Answer.{Answer}
 use Rattle.ctl_face.specs.declared.routes.Routes.{Routes}
 use Rattle.std.specs.FinMap as map
 use Rattle.std.specs.Ordering.{nat_cmp}
-use Rattle.ctl_face.specs.Acts.{Acts}
-use Rattle.ctl_face.specs.Ctl.{Mail}
-use Rattle.ruby_value.specs.Requests.{Requests}
-use Rattle.ctl_face.specs.Table.{Table}
-use Rattle.ctl_face.specs.Fits.{Fits, IsLawful, last_cycle}
-use Rattle.ctl_face.specs.LocalView.{Actor, LocalView}
-use Rattle.ctl_face.specs.RoutesFit.{HasRoutes}
-use Rattle.ctl_face.specs.ScanView.{no_acts, scan_view}
+use Rattle.ctl_face.specs.Prelude.{Acts, Mail, Table, Fits, IsLawful, last_cycle, Actor, LocalView, HasRoutes, no_acts, scan_view}
+use Rattle.ruby_value.specs.Prelude.{Requests}
 use Rattle.ctl_face.proofs.LawfulAfter.{scan_begins}
 use Rattle.ctl_mail.specs.declared.changes.MailChanges.{MailChanges}
 use Rattle.ctl_mail.specs.declared.sent.SendCounts.{SendCounts}
-use Rattle.ctl_mail.specs.MailOf.{mail_of}
+use Rattle.ctl_mail.specs.Prelude.{mail_of}
 use Rattle.ctl_mail.specs.Told as mail
 use Rattle.ctl_tables.specs.declared.change.TableChanges.{TableChanges}
 use Rattle.ctl_tables.specs.Stored as tables
-use Rattle.sequencer.specs.Callbacks.{FitCallbacks, after_callbacks}
+use Rattle.sequencer.specs.Prelude.{FitCallbacks, after_callbacks}
 use Rattle.ctl_store.specs.declared.parts.Parts.{Parts}
 use Rattle.ctl_store.proofs.Joined.{four}
-use Rattle.ctl_store.specs.Changed.{FitCalls, after_calls}
-use Rattle.ctl_store.specs.Kept.{IsKept, ctl_of}
-use Rattle.ctl_store.specs.Scanned.{IsScan, Scanned, local_of, scanned}
+use Rattle.ctl_store.specs.Prelude.{FitCalls, after_calls, IsKept, ctl_of, IsScan, Scanned, local_of, scanned}
 
 no_calls : (calls : List Answer) (o : Option Requests) → ((r : Requests) → after_callbacks calls r ≡ r) → after_calls calls o ≡ o
 no_calls calls None same = refl

@@ -3,24 +3,17 @@ use Rattle.std.proofs.Common.{◌≡◌, ℕ, cond, List, Option, None, Some, Re
 use Rattle.ruby_value.specs.declared.asked.Answer.{Answer}
 use Rattle.ruby_value.specs.declared.fault.Fault.{Fault}
 use Rattle.ruby_value.specs.declared.value.Block.{Block}
-use Rattle.ruby_value.specs.Roomy.{Roomy}
-use Rattle.ctl_face.specs.Callback.{after_callback, block_after_write, read_back, write_back}
-use Rattle.ctl_face.specs.Does.{DoesWith}
-use Rattle.ctl_face.specs.Fits.{IsLawful}
-use Rattle.ctl_face.specs.LocalView.{LocalView}
+use Rattle.ruby_value.specs.Prelude.{Roomy, Requests}
+use Rattle.ctl_face.specs.Prelude.{after_callback, block_after_write, read_back, write_back, DoesWith, IsLawful, LocalView}
 use Rattle.ctl_face.proofs.ActsKept.{read_acts, write_acts}
 use Rattle.ctl_face.proofs.Callbacks.{read_back_keeps, write_back_keeps}
 use Rattle.ctl_face.proofs.LawfulAfter.{lawful_after}
 use Rattle.ruby_value.specs.declared.asked.BackFault.{BackFault}
 use Rattle.sequencer.specs.declared.fault.CallbackFault.{CallbackFault}
 use Rattle.sequencer.specs.declared.fault.CallbackFault.TheVariants as refused
-use Rattle.sequencer.specs.Callbacks.{CallsBack, FitCallbacks, after_callbacks}
+use Rattle.sequencer.specs.Prelude.{CallsBack, FitCallbacks, after_callbacks}
 use Rattle.ruby_value.specs.Callback as callback
-use Rattle.ruby_value.specs.Requests.{Requests}
-use Rattle.ctl_store.specs.Answered.{as_trouble}
-use Rattle.ctl_store.specs.Changed.{FitCalls, after_calls}
-use Rattle.ctl_store.specs.Kept.{requests_of}
-use Rattle.ctl_store.specs.Scanned.{IsScan, Scanned, local_of}
+use Rattle.ctl_store.specs.Prelude.{as_trouble, FitCalls, after_calls, requests_of, IsScan, Scanned, local_of}
 use Rattle.ctl_store.proofs.Stays.{Steps, stays_lawful}
 
 -- the scan with other callbacks

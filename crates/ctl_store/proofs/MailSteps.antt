@@ -4,31 +4,18 @@ use Rattle.ruby_value.specs.declared.fault.Fault.{Fault}
 use Rattle.ruby_value.specs.declared.message.MsgNo.{MsgNo}
 use Rattle.ctl_face.specs.declared.trouble.Trouble.{Trouble}
 use Rattle.ctl_face.specs.declared.trouble.Trouble.TheVariants as trouble
-use Rattle.ctl_face.specs.Acts.{Acts}
+use Rattle.ctl_face.specs.Prelude.{Acts, again, AtFront, after_front, Does, enqueue, IsLawful, LocalView, pop, recycle, TakesMessage, stall, wake, wake_all}
 use Rattle.ruby_value.specs.declared.value.Value.{Value}
-use Rattle.ctl_face.specs.Again.{again}
-use Rattle.ctl_face.specs.AtFront.{AtFront, after_front}
-use Rattle.ctl_face.specs.Does.{Does}
-use Rattle.ctl_face.specs.Enqueue.{enqueue}
-use Rattle.ctl_face.specs.Fits.{IsLawful}
-use Rattle.ruby_value.specs.Lines.{IsLine}
-use Rattle.ctl_face.specs.LocalView.{LocalView}
-use Rattle.ctl_face.specs.Pop.{pop}
-use Rattle.ctl_face.specs.Recycle.{recycle}
-use Rattle.ctl_face.specs.Served.{TakesMessage}
-use Rattle.ctl_face.specs.Stall.{stall}
-use Rattle.ctl_face.specs.Wake.{wake, wake_all}
+use Rattle.ruby_value.specs.Prelude.{IsLine}
 use Rattle.ctl_face.proofs.ActsKept.{enqueue_acts, pop_acts, recycle_acts, stall_acts, wake_acts}
 use Rattle.ctl_face.proofs.LawfulAfter.{lawful_after, own_below}
 use Rattle.ctl_face.proofs.MailKept.{again_keeps, pop_keeps, recycle_keeps, stall_keeps, wake_all_keeps, wake_keeps}
 use Rattle.ctl_face.proofs.Sendings.{enqueue_keeps}
 use Rattle.ctl_mail.specs.declared.changes.MailChanges.{MailChanges}
-use Rattle.ctl_mail.specs.MailOf.{mail_of}
-use Rattle.ctl_mail.specs.MailView.{MailDoes, MailView, view_again, view_popped, view_recycled, view_stalled, view_wake, view_wake_all, with_mail_view}
-use Rattle.ctl_mail.specs.Sends.{actor_of, view_sent}
+use Rattle.ctl_mail.specs.Prelude.{mail_of, MailDoes, MailView, view_again, view_popped, view_recycled, view_stalled, view_wake, view_wake_all, with_mail_view, actor_of, view_sent}
 use Rattle.ctl_mail.proofs.Locals.{enqueue-is, in_local, pop-is, recycle-is, stall-is}
 use Rattle.ctl_mail.specs.Told as mail
-use Rattle.ctl_store.specs.Scanned.{IsScan, Scanned, local_of}
+use Rattle.ctl_store.specs.Prelude.{IsScan, Scanned, local_of}
 use Rattle.ctl_store.proofs.Stays.{Steps, stays_lawful}
 
 -- the scan with other changes of its mail

@@ -3,10 +3,8 @@ use Rattle.std.proofs.Common.{◌≡◌, Result, Ok, Err, sym, subst}
 use Rattle.ruby_value.specs.declared.fault.Fault.{Fault}
 use Rattle.ctl_face.specs.declared.trouble.Trouble.{Trouble}
 use Rattle.ctl_face.specs.declared.trouble.Trouble.TheVariants as trouble
-use Rattle.ctl_face.specs.Does.{DoesWith}
-use Rattle.ctl_face.specs.Fits.{IsLawful}
-use Rattle.ctl_face.specs.LocalView.{LocalView}
-use Rattle.ctl_store.specs.Scanned.{IsScan, Scanned, local_of}
+use Rattle.ctl_face.specs.Prelude.{DoesWith, IsLawful, LocalView}
+use Rattle.ctl_store.specs.Prelude.{IsScan, Scanned, local_of}
 
 pub stays_lawful : {A : Type 0} (want : Result LocalView Fault) (answer : A) (result : Result A Trouble) (v new : LocalView)
     → ((after : LocalView) → want ≡ Ok after → IsLawful after) → IsLawful v → DoesWith want answer result v new → IsLawful new

@@ -9,34 +9,19 @@ use Rattle.ruby_value.specs.declared.kind.Kind.{Kind}
 use Rattle.ruby_value.specs.declared.setup.TableSetup.{TableSetup}
 use Rattle.ruby_value.specs.declared.value.Ref.{Ref}
 use Rattle.ruby_value.specs.declared.value.Value.{Value}
-use Rattle.ruby_value.specs.HasKind.{has_kind}
-use Rattle.ruby_value.specs.HasKinds.{has_kinds}
+use Rattle.ruby_value.specs.Prelude.{has_kind, has_kinds, IsLine}
 use Rattle.ctl_face.specs.declared.trouble.Trouble.{Trouble}
 use Rattle.ctl_face.specs.declared.trouble.Trouble.TheVariants as trouble
-use Rattle.ctl_face.specs.Allocate.{allocate}
-use Rattle.ctl_face.specs.Deallocate.{deallocate}
-use Rattle.ctl_face.specs.Does.{DoesWith}
-use Rattle.ctl_face.specs.FieldsIn.{fields_in}
-use Rattle.ctl_face.specs.Fits.{FitsTableAt, IsLawful}
-use Rattle.ruby_value.specs.Lines.{IsLine}
-use Rattle.ctl_face.specs.LocalView.{LocalView}
-use Rattle.ctl_face.specs.Lookup.{reference_to}
-use Rattle.ctl_face.specs.OfMachine.{initial_fields}
-use Rattle.ctl_face.specs.Served.{HasStates, TakesField}
-use Rattle.ctl_face.specs.Set.{set as set_field}
-use Rattle.ctl_face.specs.State.{set_state}
-use Rattle.ctl_face.specs.Table.{Table}
-use Rattle.ctl_face.specs.Touch.{touch}
+use Rattle.ctl_face.specs.Prelude.{allocate, deallocate, DoesWith, fields_in, FitsTableAt, IsLawful, LocalView, reference_to, initial_fields, HasStates, TakesField, set, set_state, Table, touch}
 use Rattle.ctl_face.proofs.ActsKept.{changed_acts}
 use Rattle.ctl_face.proofs.Callbacks.{set_state_keeps}
 use Rattle.ctl_face.proofs.LawfulAfter.{lawful_after}
 use Rattle.ctl_face.proofs.TableCalls.{allocate_keeps, deallocate_keeps, kinds_in, set_keeps, touch_keeps}
 use Rattle.ctl_tables.specs.declared.change.TableChanges.{TableChanges}
-use Rattle.ctl_tables.specs.Logged.{DoesIn}
+use Rattle.ctl_tables.specs.Prelude.{DoesIn, allocate_in, deallocate_in, fields_at, set_in, touch_in}
 use Rattle.ctl_tables.specs.Stored as tables
-use Rattle.ctl_tables.specs.TableActs.{allocate_in, deallocate_in, fields_at, set_in, touch_in}
 use Rattle.ctl_tables.proofs.Views.{allocate_does, deallocate_does, set_does, set_state_does, touch_does}
-use Rattle.ctl_store.specs.Scanned.{IsScan, Scanned, local_of}
+use Rattle.ctl_store.specs.Prelude.{IsScan, Scanned, local_of}
 use Rattle.ctl_store.proofs.Stays.{Steps, stays_lawful}
 
 -- the scan with other changes of its tables and states
@@ -108,9 +93,9 @@ module _ (s v : Scanned) (t : TableChanges) (same_scan : s ≡ v) (is : IsScan s
   pub set_step : (r : Ref) (field : ℕ) (value : Value) (result : Result (Unit {0}) Trouble)
       → TakesField (local_of v) r.table field value → IsLine r.line
       → DoesIn (set_in before r field value) result before after → states_after ≡ states_before
-      → Steps (λ u. set_field u r field value) (λ u. tt) result v (with_changes s t)
+      → Steps (λ u. set u r field value) (λ u. tt) result v (with_changes s t)
   set_step r field value result takes line does same =
-      step (λ u. set_field u r field value) (λ u. tt) result
+      step (λ u. set u r field value) (λ u. tt) result
       (set_does (local_of s) before states_before after states_after r field value result same does)
       (λ u. lawful_after _ (set_keeps (local_of s) r field value (subst (λ (w : Scanned). TakesField (local_of w) r.table field value) (sym same_scan) takes) line is.lawful.scan) (changed_acts (local_of s) is.lawful.acts r.table _) u)
 

@@ -4,14 +4,11 @@
 use Rattle.std.specs.Prelude.{◌≡◌, Option, None, Some, List, []}
 use Rattle.std.specs.Option.{option_map}
 use Rattle.ruby_value.specs.declared.asked.Answer.{Answer}
-use Rattle.ruby_value.specs.WithAll.{with_all}
-use Rattle.ctl_face.specs.Acts.{Acts}
-use Rattle.ctl_face.specs.Ctl.{Ctl}
-use Rattle.ruby_value.specs.Requests.{Requests}
-use Rattle.ctl_mail.specs.Told.{CopiesFit, changed_mail, told_by}
-use Rattle.ctl_tables.specs.After.{after_changes}
-use Rattle.ctl_tables.specs.Stored.{log_of, state_log_of}
-use Rattle.sequencer.specs.Callbacks.{FitCallbacks, after_callbacks}
+use Rattle.ruby_value.specs.Prelude.{with_all, Requests}
+use Rattle.ctl_face.specs.Prelude.{Acts, Ctl}
+use Rattle.ctl_mail.specs.Prelude.{CopiesFit, changed_mail, told_by}
+use Rattle.ctl_tables.specs.Prelude.{after_changes, log_of, state_log_of}
+use Rattle.sequencer.specs.Prelude.{FitCallbacks, after_callbacks}
 use Rattle.ctl_store.specs.declared.changes.Changes.{Changes}
 
 abbrev pub after_calls : List Answer → Option Requests → Option Requests

@@ -3,12 +3,10 @@
 use Rattle.std.specs.Prelude.{◌≡◌, ℕ, Option, length, unwrap_or}
 use Rattle.std.specs.Option.{option_map}
 use Rattle.ruby_value.specs.declared.setup.MachineSetup.{MachineSetup}
-use Rattle.ruby_value.specs.Roomy.{Roomy}
-use Rattle.ctl_face.specs.Ctl.{Ctl}
-use Rattle.ruby_value.specs.Requests.{Requests}
-use Rattle.ctl_face.specs.IsMachine.{IsMachine}
-use Rattle.ctl_mail.specs.MailOf.{IsMail, buffer_count, mail_of}
-use Rattle.ctl_tables.specs.Stored.{default_of, states_of, tables_of}
+use Rattle.ruby_value.specs.Prelude.{Roomy, Requests}
+use Rattle.ctl_face.specs.Prelude.{Ctl, IsMachine}
+use Rattle.ctl_mail.specs.Prelude.{IsMail, buffer_count, mail_of}
+use Rattle.ctl_tables.specs.Prelude.{default_of, states_of, tables_of}
 use Rattle.ctl_store.specs.declared.parts.Parts.{Parts}
 
 abbrev pub requests_of : Option (Roomy Requests) → Option Requests

@@ -1,8 +1,7 @@
 -- How a store lends its sequencer: once the borrow is over, the store is as it was, but that its sequencer is what was left there.
 use Rattle.std.specs.Prelude.{Option, Some}
 use Rattle.std.specs.Borrow.{Fml, LendsIf, MutBor}
-use Rattle.ruby_value.specs.Roomy.{Roomy}
-use Rattle.ruby_value.specs.Requests.{Requests}
+use Rattle.ruby_value.specs.Prelude.{Roomy, Requests}
 use Rattle.sequencer.specs.contracts.sequencer.Sequencer as sequencer_type
 use Rattle.ctl_store.specs.contracts.store.Store as store_type
 use Rattle.ctl_store.specs.declared.parts.Parts.{Parts}

@@ -6,3 +6,4 @@ pub mod Lending
 pub mod Room
 pub mod Scanned
 pub mod Sealed
+pub mod Prelude

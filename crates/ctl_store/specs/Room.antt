@@ -2,7 +2,7 @@
 -- Of both there is room for one mark more.
 use Rattle.std.specs.Prelude.{◌≡◌, ◌<◌, ℕ}
 use Rattle.ctl_mail.specs.Room as mail_room
-use Rattle.ctl_mail.specs.Told.{told_by}
+use Rattle.ctl_mail.specs.Prelude.{told_by}
 use Rattle.ctl_tables.specs.Stored as tables
 use Rattle.ctl_store.specs.declared.changes.Changes.{Changes}
 use Rattle.ctl_store.specs.declared.parts.Parts.{Parts}

@@ -2,8 +2,7 @@
 -- are changes of what the store keeps.
 use Rattle.std.specs.Prelude.{ℕ}
 use Rattle.ctl_face.specs.declared.routes.Routes.{Routes}
-use Rattle.ctl_face.specs.Fits.{IsLawful}
-use Rattle.ctl_face.specs.LocalView.{LocalView}
+use Rattle.ctl_face.specs.Prelude.{IsLawful, LocalView}
 use Rattle.ctl_mail.specs.Told as mail
 use Rattle.ctl_tables.specs.Stored as tables
 use Rattle.ctl_store.specs.declared.changes.Changes.{Changes}

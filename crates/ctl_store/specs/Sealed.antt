@@ -1,9 +1,7 @@
 -- What a sealed scan has: what it changes, which fits the controller that the scan began with, and what is told of its transition.
 use Rattle.std.specs.Prelude.{◌≡◌}
 use Rattle.run_journal.specs.declared.entry.FireNote.{FireNote}
-use Rattle.ctl_face.specs.Acts.{Acts}
-use Rattle.ctl_face.specs.Ctl.{Ctl}
-use Rattle.ctl_face.specs.LocalView.{LocalView}
+use Rattle.ctl_face.specs.Prelude.{Acts, Ctl, LocalView}
 use Rattle.ctl_store.specs.declared.outcome.Outcome.{Outcome}
 use Rattle.ctl_store.specs.declared.parts.Parts.{Parts}
 use Rattle.ctl_store.specs.Changed.{FitChanges, acts_of, changed_ctl}

@@ -1,8 +1,6 @@
 // The changes of a scan, made in the parts of a store.
 ghost use Rattle.std.specs.Prelude.{◌≡◌};
-ghost use Rattle.ctl_store.specs.Changed.{FitCalls, FitChanges, acts_of, after_calls, changed_ctl};
-ghost use Rattle.ctl_store.specs.Kept.{IsKept, ctl_of, requests_of};
-ghost use Rattle.ctl_store.specs.Room.{HasRoomForChanges, HasRoomForMark, IsSameStore};
+ghost use Rattle.ctl_store.specs.Prelude.{FitCalls, FitChanges, acts_of, after_calls, changed_ctl, IsKept, ctl_of, requests_of, HasRoomForChanges, HasRoomForMark, IsSameStore};
 
 use crate::changes::Changes;
 use crate::parts::Parts;

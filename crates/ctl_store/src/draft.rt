@@ -1,5 +1,4 @@
-ghost use Rattle.ctl_face.specs.Fits.{IsLawful};
-ghost use Rattle.ctl_face.specs.LawfulProp.{IsLawful-prop};
+ghost use Rattle.ctl_face.specs.Prelude.{IsLawful, IsLawful-prop};
 ghost use Rattle.ctl_store.specs.Scanned.{local_of};
 
 use crate::outcome::Outcome;
@@ -24,9 +23,7 @@ impl Drop for Draft<'_> {
 
 impl<'a> Draft<'a> {
     ghost use Rattle.std.specs.Prelude.{◌≡◌, ◌≤◌};
-    ghost use Rattle.ctl_face.specs.Fits.{Fits, last_cycle};
-    ghost use Rattle.ctl_face.specs.RoutesFit.{HasRoutes};
-    ghost use Rattle.ctl_face.specs.ScanView.{scan_view};
+    ghost use Rattle.ctl_face.specs.Prelude.{Fits, last_cycle, HasRoutes, scan_view};
     ghost use Rattle.ctl_store.specs.Drafted.{view_of};
     ghost use Rattle.ctl_store.specs.Kept.{ctl_of, machine_of, me_of};
     ghost use Rattle.ctl_store.specs.Sealed.{IsOutcomeOf};

@@ -12,7 +12,6 @@ mod outcome;
 mod parts;
 mod scan;
 mod scan_calls;
-mod scan_mail;
 mod scan_tables;
 mod store;
 

@@ -1,8 +1,7 @@
 // A store as a run of a plan begins.
 ghost use Rattle.std.specs.Prelude.{◌≡◌, Some, IfOk, IsSome, slice_get};
-ghost use Rattle.slicc_plan.specs.Declarations.{machines_of};
-ghost use Rattle.slicc_plan.specs.Setups.{AreSizesOf, setup_of};
-ghost use Rattle.ctl_face.specs.Opening.{opening_ctl};
+ghost use Rattle.slicc_plan.specs.Prelude.{machines_of, AreSizesOf, setup_of};
+ghost use Rattle.ctl_face.specs.Prelude.{opening_ctl};
 ghost use Rattle.ctl_store.specs.Kept.{ctl_of, machine_of, me_of};
 
 use crate::store::Store;

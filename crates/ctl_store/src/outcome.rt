@@ -1,5 +1,5 @@
 ghost use Rattle.std.specs.Prelude.{◌≡◌, ◌<◌, ◌+◌, ◌^◌, OnOk};
-ghost use Rattle.ctl_face.specs.Between.{with_one_fired};
+ghost use Rattle.ctl_face.specs.Prelude.{with_one_fired};
 ghost use Rattle.ctl_store.specs.Kept.{ctl_of};
 ghost use Rattle.ctl_store.specs.Room.{HasRoomForMark, IsSameStore};
 ghost use Rattle.ctl_store.specs.Sealed.{HasRoomForOutcome, IsOutcomeFor, note_of, outcome_acts, outcome_ctl};

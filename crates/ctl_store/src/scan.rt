@@ -1,16 +1,17 @@
-ghost use Rattle.std.specs.Prelude.{◌≡◌, ◌≤◌};
-ghost use Rattle.ctl_face.specs.Fits.{Fits, IsLawful, last_cycle};
-ghost use Rattle.ctl_face.specs.RoutesFit.{HasRoutes};
-ghost use Rattle.ctl_face.specs.ScanView.{scan_view};
+ghost use Rattle.std.specs.Prelude.{◌≡◌, ◌≤◌, Ok};
+ghost use Rattle.std.specs.Option.{option_copied};
+ghost use Rattle.ctl_face.specs.Prelude.{Fits, IsLawful, last_cycle, HasRoutes, scan_view, again, Does, Reads, enqueue, pop, front_now, ready, required_front, recycle, TakesMessage, stall, wake, wake_all};
 ghost use Rattle.ctl_store.specs.Kept.{IsKept, ctl_of};
 ghost use Rattle.ctl_store.specs.Scanned.{local_of};
 ghost use Rattle.ctl_store.specs.Sealed.{IsOutcomeOf};
+ghost use Rattle.ruby_value.specs.Prelude.{IsLine};
 
+use crate::Outcome;
 use crate::changes::Changes;
-use crate::outcome::Outcome;
 use crate::parts::Parts;
-use ctl_face::{MachineSetup, Routes};
+use ctl_face::{MachineSetup, Routes, Trouble};
 use ctl_mail::MailChanges;
+use ruby_value::{Fields, Message};
 use run_journal::FireNote;
 use sequencer::Callbacks;
 use std::alloc::Global;
@@ -108,5 +109,88 @@ impl<'a> Scan<'a> {
         ensures { result.now ≡ (local_of self.now).machine }
     {
         &self.parts.machine
+    }
+}
+
+impl<'a> Scan<'a> {
+    pub(crate) fn peek(&self, buffer: u16) -> Option<&Message>
+        ensures { option_copied result ≡ front_now (local_of self.now) buffer }
+    {
+        ctl_mail::peek(&self.parts.mail, &self.changes.mail, buffer)
+    }
+
+    pub(crate) fn pop(&mut self, buffer: u16) -> Result<(), Trouble>
+        ensures does { Does (pop (local_of self.old) buffer) result (local_of self.old) (local_of self.new) }
+        ensures lawful { IsLawful (local_of self.new) }
+    {
+        ctl_mail::pop(&self.parts.mail, &mut self.changes.mail, buffer)
+    }
+
+    pub(crate) fn recycle(&mut self, buffer: u16, latency: i64) -> Result<(), Trouble>
+        ensures does { Does (recycle (local_of self.old) buffer latency) result (local_of self.old) (local_of self.new) }
+        ensures lawful { IsLawful (local_of self.new) }
+    {
+        ctl_mail::recycle(&self.parts.mail, &mut self.changes.mail, buffer, latency)
+    }
+
+    pub(crate) fn again(&mut self) -> Result<(), Trouble>
+        ensures does { Does (Ok (again (local_of self.old))) result (local_of self.old) (local_of self.new) }
+        ensures lawful { IsLawful (local_of self.new) }
+    {
+        ctl_mail::again(&self.parts.mail, &mut self.changes.mail)
+    }
+
+    pub(crate) fn ready(&self, buffer: u16) -> bool
+        ensures { result ≡ ready (local_of self.now) buffer }
+    {
+        ctl_mail::ready(&self.parts.mail, &self.changes.mail, buffer)
+    }
+
+    pub(crate) fn front(&self, buffer: u16) -> Result<Message, Trouble>
+        ensures { Reads (required_front (local_of self.now) buffer) result }
+    {
+        ctl_mail::front(&self.parts.mail, &self.changes.mail, buffer)
+    }
+
+    pub(crate) fn stall(&mut self, buffer: u16, line: u64) -> Result<(), Trouble>
+        requires line { IsLine line }
+        ensures does { Does (stall (local_of self.old) buffer line) result (local_of self.old) (local_of self.new) }
+        ensures lawful { IsLawful (local_of self.new) }
+    {
+        ctl_mail::stall(&self.parts.mail, &mut self.changes.mail, buffer, line)
+    }
+
+    pub(crate) fn wake(&mut self, line: u64) -> Result<(), Trouble>
+        ensures does { Does (Ok (wake (local_of self.old) line)) result (local_of self.old) (local_of self.new) }
+        ensures lawful { IsLawful (local_of self.new) }
+    {
+        ctl_mail::wake(&self.parts.mail, &mut self.changes.mail, line)
+    }
+
+    pub(crate) fn wake_all(&mut self) -> Result<(), Trouble>
+        ensures does { Does (Ok (wake_all (local_of self.old))) result (local_of self.old) (local_of self.new) }
+        ensures lawful { IsLawful (local_of self.new) }
+    {
+        ctl_mail::wake_all(&self.parts.mail, &mut self.changes.mail)
+    }
+
+    pub(crate) fn send(&mut self, buffer: u16, latency: i64, fields: Fields) -> Result<(), Trouble>
+        requires { TakesMessage (local_of self.old) buffer fields }
+        ensures does { Does (enqueue (local_of self.old) buffer latency fields) result
+            (local_of self.old) (local_of self.new) }
+        ensures lawful { IsLawful (local_of self.new) }
+    {
+        let parts = self.parts;
+        ctl_mail::send(
+            &parts.mail,
+            &mut self.changes.mail,
+            &parts.machine,
+            parts.me,
+            self.seed,
+            self.routes,
+            buffer,
+            latency,
+            fields,
+        )
     }
 }

@@ -1,8 +1,6 @@
 // The callbacks of a scan.
 ghost use Rattle.std.specs.Prelude.{◌≡◌};
-ghost use Rattle.ctl_face.specs.Callback.{block_after_write, read_back, write_back};
-ghost use Rattle.ctl_face.specs.Does.{Does, DoesWith};
-ghost use Rattle.ctl_face.specs.Fits.{IsLawful};
+ghost use Rattle.ctl_face.specs.Prelude.{block_after_write, read_back, write_back, Does, DoesWith, IsLawful};
 ghost use Rattle.ctl_store.specs.Answered.{as_trouble};
 ghost use Rattle.ctl_store.specs.Scanned.{local_of};
 

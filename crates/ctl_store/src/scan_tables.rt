@@ -1,20 +1,9 @@
 // The acts of a scan on its tables and states.
 ghost use Rattle.std.specs.Prelude.{◌≡◌, Ok, slice_get};
 ghost use Rattle.std.specs.Option.{option_copied, option_map};
-ghost use Rattle.ruby_value.specs.declared.setup.TableSetup.{TableSetup as SetupRecord};
-ghost use Rattle.ctl_face.specs.Allocate.{allocate};
-ghost use Rattle.ctl_face.specs.Avail.{avail, probe};
-ghost use Rattle.ctl_face.specs.Deallocate.{deallocate};
-ghost use Rattle.ctl_face.specs.Does.{Does, DoesWith, Reads};
-ghost use Rattle.ctl_face.specs.Fits.{IsLawful};
-ghost use Rattle.ruby_value.specs.Lines.{IsLine};
-ghost use Rattle.ctl_face.specs.Free.{free};
-ghost use Rattle.ctl_face.specs.Get.{get};
-ghost use Rattle.ctl_face.specs.Lookup.{lookup, reference_to};
-ghost use Rattle.ctl_face.specs.Served.{HasStates, Serves, TakesField, looks_up};
-ghost use Rattle.ctl_face.specs.Set.{set};
-ghost use Rattle.ctl_face.specs.State.{set_state, state};
-ghost use Rattle.ctl_face.specs.Touch.{touch};
+ghost use Rattle.ruby_value.specs.declared.setup.TableSetup.{TableSetup};
+ghost use Rattle.ctl_face.specs.Prelude.{allocate, avail, probe, deallocate, Does, DoesWith, Reads, IsLawful, free, get, lookup, reference_to, HasStates, Serves, TakesField, looks_up, set, set_state, state, touch};
+ghost use Rattle.ruby_value.specs.Prelude.{IsLine};
 ghost use Rattle.ctl_store.specs.Scanned.{local_of};
 
 use crate::scan::Scan;
@@ -23,7 +12,7 @@ use ruby_value::{Fields, Ref, Value};
 
 // The fields that a new line of the table has, if the machine has the table.
 fn initial_fields(machine: &MachineSetup, table: u16) -> Option<&Fields>
-    ensures { option_copied result ≡ option_map (λ (s : SetupRecord). s.initial) (slice_get machine.now.tables table) }
+    ensures { option_copied result ≡ option_map (λ (s : TableSetup). s.initial) (slice_get machine.now.tables table) }
 {
     match machine.tables.get(usize::from(table)) {
         Some(setup) => Some(&setup.initial),

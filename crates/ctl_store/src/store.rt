@@ -1,10 +1,6 @@
 ghost use Rattle.std.specs.Prelude.{◌≡◌, ◌<◌, ◌+◌, ℕ, IfOk, OnOk, count_by, length};
-ghost use Rattle.ctl_face.specs.Between.{at_cycle, with_arrival, with_stop, with_wake_up};
-ghost use Rattle.ctl_face.specs.IsMachine.{IsMachine};
-ghost use Rattle.ctl_face.specs.Opening.{no_requests, opening_ctl};
-ghost use Rattle.ctl_mail.specs.Census.{capped, is_queued, is_recycled, is_stalled};
-ghost use Rattle.ctl_mail.specs.MailOf.{IsNewIn};
-ghost use Rattle.ctl_mail.specs.Marks.{IsNextMark};
+ghost use Rattle.ctl_face.specs.Prelude.{at_cycle, with_arrival, with_stop, with_wake_up, IsMachine, no_requests, opening_ctl};
+ghost use Rattle.ctl_mail.specs.Prelude.{capped, is_queued, is_recycled, is_stalled, IsNewIn, IsNextMark};
 ghost use Rattle.ctl_store.specs.Kept.{ctl_of, machine_of, me_of, requests_of};
 ghost use Rattle.ctl_store.specs.Room.{HasRoomForMark, HasRoomForMessages, IsSameStore};
 
@@ -33,10 +29,10 @@ impl Drop for Store {
 impl Model for Store {
     ghost use Rattle.std.specs.Coded.{codes};
     ghost use Rattle.ctl_store.specs.contracts.parts.Parts as parts_type;
-    ghost use Rattle.ctl_store.specs.declared.parts.Parts.{Parts as PartsRecord};
+    ghost use Rattle.ctl_store.specs.declared.parts.Parts.{Parts};
     ghost use Rattle.ctl_store.specs.Kept.{IsKept};
 
-    ghost Value = { PartsRecord };
+    ghost Value = { Parts };
 
     ghost coded = { parts_type.the_row.coded };
 

@@ -6,20 +6,11 @@ use Rattle.std.specs.FinMap as map
 use Rattle.std.specs.Option.{option_and_then, option_map}
 use Rattle.ruby_value.specs.declared.fault.Fault.TheVariants.{Full, Present}
 use Rattle.ruby_value.specs.declared.value.Value.{Value}
-use Rattle.ruby_value.specs.Available.{available}
-use Rattle.ruby_value.specs.Cache.{Cache}
-use Rattle.ruby_value.specs.FieldsOf.{fields_of}
-use Rattle.ruby_value.specs.SetOf.{set_of}
-use Rattle.ruby_value.specs.WithSet.{with_set}
-use Rattle.ctl_face.specs.Allocate.{with_line}
-use Rattle.ctl_face.specs.Avail.{available_in}
-use Rattle.ctl_face.specs.FieldsIn.{fields_in}
-use Rattle.ctl_face.specs.Table.{Table, CacheTable, DirectoryTable, TbeTable, ParameterTable}
+use Rattle.ruby_value.specs.Prelude.{available, Cache, fields_of, set_of, with_set}
+use Rattle.ctl_face.specs.Prelude.{with_line, available_in, fields_in, Table, CacheTable, DirectoryTable, TbeTable, ParameterTable}
 use Rattle.ctl_tables.specs.declared.change.Edit.TheVariants as edit
 use Rattle.ctl_tables.specs.declared.change.TableChange.{TableChange}
-use Rattle.ctl_tables.specs.Frames.{frame_at, frame_of, keeps_order, loses_lines}
-use Rattle.ctl_tables.specs.Places.{room_in}
-use Rattle.ctl_tables.specs.TableActs.{after_change_in, allocate_in, avail_from, change_if_there_in, fields_at}
+use Rattle.ctl_tables.specs.Prelude.{frame_at, frame_of, keeps_order, loses_lines, room_in, after_change_in, allocate_in, avail_from, change_if_there_in, fields_at}
 use Rattle.ctl_tables.proofs.Doing.{IsDone, done_of}
 use Rattle.ctl_tables.proofs.Losing.{set_same}
 

@@ -9,26 +9,14 @@ use Rattle.std.specs.Option.{option_map, option_to_list}
 use Rattle.std.specs.Ordering.{nat_cmp}
 use Rattle.ruby_value.specs.declared.fault.Fault.TheVariants.{Absent, Full, Present, Reference}
 use Rattle.ruby_value.specs.declared.value.Value.{Value}
-use Rattle.ruby_value.specs.Available.{available}
-use Rattle.ruby_value.specs.Cache.{Cache, Line}
-use Rattle.ruby_value.specs.FieldsOf.{fields_of}
-use Rattle.ruby_value.specs.MadeRecent.{made_recent}
-use Rattle.ruby_value.specs.SetOf.{set_of}
-use Rattle.ruby_value.specs.WithFields.{with_fields}
-use Rattle.ruby_value.specs.WithSet.{with_set}
-use Rattle.ruby_value.specs.WithoutLine.{without_line}
+use Rattle.ruby_value.specs.Prelude.{available, Cache, Line, fields_of, made_recent, set_of, with_fields, with_set, without_line}
 use Rattle.ruby_value.proofs.CacheSets.{length_removed, length_recent}
-use Rattle.ctl_face.specs.Free.{free_in}
-use Rattle.ctl_face.specs.Set.{table_with_field}
-use Rattle.ctl_face.specs.Table.{Table, CacheTable, DirectoryTable, TbeTable, ParameterTable}
+use Rattle.ctl_face.specs.Prelude.{free_in, table_with_field, Table, CacheTable, DirectoryTable, TbeTable, ParameterTable}
 use Rattle.ctl_face.proofs.Cases.{Good, good_ok, good_err, good_cond}
 use Rattle.ctl_tables.specs.declared.change.Edit.{Edit}
 use Rattle.ctl_tables.specs.declared.change.Edit.TheVariants as edit
 use Rattle.ctl_tables.specs.declared.change.TableChange.{TableChange}
-use Rattle.ctl_tables.specs.After.{after_changes, with_change, CanChange, IsTable, Replays}
-use Rattle.ctl_tables.specs.Change.{edit_in, kept_in}
-use Rattle.ctl_tables.specs.Frames.{Frame, frame_at, frame_of, keeps_order}
-use Rattle.ctl_tables.specs.Places.{is_beside, lines_after, lines_changed, lines_beside, lines_with, places_of, room_in, share_places}
+use Rattle.ctl_tables.specs.Prelude.{after_changes, with_change, CanChange, IsTable, Replays, edit_in, kept_in, Frame, frame_at, frame_of, keeps_order, is_beside, lines_after, lines_changed, lines_beside, lines_with, places_of, room_in, share_places}
 use Rattle.ctl_tables.proofs.Backwards.{reverse_more}
 use Rattle.ctl_tables.proofs.Sets.{one_set, other_set, same_set}
 use Rattle.ctl_tables.proofs.Steps.{changes_or_stays, frames_after, law_after}

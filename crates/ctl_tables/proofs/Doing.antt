@@ -6,16 +6,10 @@ use Rattle.ruby_value.specs.declared.fault.Fault.TheVariants.{Reference}
 use Rattle.ruby_value.specs.declared.value.Value.{Value}
 use Rattle.ctl_face.specs.declared.trouble.Trouble.{Trouble}
 use Rattle.ctl_face.specs.declared.trouble.Trouble.TheVariants as trouble
-use Rattle.ctl_face.specs.FieldsIn.{fields_in, with_fields_in}
-use Rattle.ctl_face.specs.Set.{table_with_field}
-use Rattle.ctl_face.specs.Table.{Table, CacheTable, DirectoryTable, TbeTable, ParameterTable}
+use Rattle.ctl_face.specs.Prelude.{fields_in, with_fields_in, table_with_field, Table, CacheTable, DirectoryTable, TbeTable, ParameterTable}
 use Rattle.ctl_tables.specs.declared.change.Edit.TheVariants as edit
 use Rattle.ctl_tables.specs.declared.change.TableChange.{TableChange}
-use Rattle.ctl_tables.specs.After.{after_changes, or_same, with_change, with_change_in, CanChange, CanEdit, HasFieldOf, Replays}
-use Rattle.ctl_tables.specs.Change.{edit_in, kept_in}
-use Rattle.ctl_tables.specs.Logged.{DoesIn}
-use Rattle.ctl_tables.specs.TableActs.{after_change_in, change_if_there_in, changed_in, set_in}
-use Rattle.ctl_tables.specs.Ways.{IsUnwritten}
+use Rattle.ctl_tables.specs.Prelude.{after_changes, or_same, with_change, with_change_in, CanChange, CanEdit, HasFieldOf, Replays, edit_in, kept_in, DoesIn, after_change_in, change_if_there_in, changed_in, set_in, IsUnwritten}
 use Rattle.ctl_tables.proofs.Stays.{default_in, fields_are, kept_or}
 
 -- what is wanted is what the change makes, and it can be made

@@ -9,22 +9,13 @@ use Rattle.std.specs.Ordering.{nat_cmp}
 use Rattle.std.specs.Option.{option_map}
 use Rattle.ruby_value.specs.declared.fault.Fault.TheVariants.{Absent, Full, Present, Reference}
 use Rattle.ruby_value.specs.declared.value.Value.{Value}
-use Rattle.ruby_value.specs.Available.{available}
-use Rattle.ruby_value.specs.Cache.{Cache}
-use Rattle.ruby_value.specs.FieldsOf.{fields_of}
-use Rattle.ruby_value.specs.MadeRecent.{made_recent}
-use Rattle.ruby_value.specs.SetOf.{set_of}
-use Rattle.ruby_value.specs.WithFields.{with_fields}
-use Rattle.ruby_value.specs.WithSet.{with_set}
-use Rattle.ruby_value.specs.WithoutLine.{without_line}
+use Rattle.ruby_value.specs.Prelude.{available, Cache, fields_of, made_recent, set_of, with_fields, with_set, without_line}
 use Rattle.ruby_value.proofs.CacheSets.{set_lines}
-use Rattle.ctl_face.specs.Set.{table_with_field}
-use Rattle.ctl_face.specs.Table.{Table, CacheTable, DirectoryTable, TbeTable, ParameterTable}
+use Rattle.ctl_face.specs.Prelude.{table_with_field, Table, CacheTable, DirectoryTable, TbeTable, ParameterTable}
 use Rattle.ctl_face.proofs.Cases.{Good, good_ok, good_err, good_cond}
 use Rattle.ctl_tables.specs.declared.change.Edit.{Edit}
 use Rattle.ctl_tables.specs.declared.change.Edit.TheVariants as edit
-use Rattle.ctl_tables.specs.After.{IsTable}
-use Rattle.ctl_tables.specs.Change.{edit_in, kept_in}
+use Rattle.ctl_tables.specs.Prelude.{IsTable, edit_in, kept_in}
 use Rattle.ctl_tables.proofs.Sets.{AtLine, written_at, removed_at, pushed_at, recent_at, edited_at}
 
 abbrev pub after_edit : Edit → Option (List Value) → Option (List Value)

@@ -4,18 +4,12 @@ use mathlib.Core.Bool.{false≢true}
 use Rattle.std.specs.Option.{option_and_then, option_map}
 use Rattle.std.proofs.lemmas.Option.{slice_get-map}
 use Rattle.ruby_value.specs.declared.value.Value.{Value}
-use Rattle.ctl_face.specs.FieldsIn.{fields_in}
-use Rattle.ctl_face.specs.Table.{Table, CacheTable, DirectoryTable, TbeTable, ParameterTable}
+use Rattle.ctl_face.specs.Prelude.{fields_in, Table, CacheTable, DirectoryTable, TbeTable, ParameterTable}
 use Rattle.ctl_tables.specs.declared.change.TableChange.{TableChange}
 use Rattle.ctl_tables.specs.declared.stored.StoredTable.{StoredTable}
 use Rattle.ctl_tables.specs.declared.ways.Way.{Way}
 use Rattle.ctl_tables.specs.declared.ways.Way.TheVariants as way
-use Rattle.ctl_tables.specs.After.{after_changes, IsTable, Replays}
-use Rattle.ctl_tables.specs.Change.{kept_in}
-use Rattle.ctl_tables.specs.Container.{table_of}
-use Rattle.ctl_tables.specs.TableActs.{fields_at}
-use Rattle.ctl_tables.specs.Ways.{IsUnwritten, IsWay, IsWayIn}
-use Rattle.ctl_tables.specs.Frames.{DirectoryFrame, frame_of}
+use Rattle.ctl_tables.specs.Prelude.{after_changes, IsTable, Replays, kept_in, table_of, fields_at, IsUnwritten, IsWay, IsWayIn, DirectoryFrame, frame_of}
 use Rattle.ctl_tables.proofs.Steps.{frames_after, kept_at}
 
 none_is : {X : Type 0} (o : Option X) → is_some o ≡ false → o ≡ None

@@ -4,18 +4,11 @@ use Rattle.std.proofs.lemmas.Bool.{true≢false}
 use Rattle.std.specs.FinMap as map
 use Rattle.std.specs.Option.{option_and_then, option_map}
 use Rattle.ruby_value.specs.declared.fault.Fault.TheVariants.{Absent}
-use Rattle.ruby_value.specs.MadeRecent.{made_recent}
-use Rattle.ruby_value.specs.SetOf.{set_of}
-use Rattle.ruby_value.specs.WithSet.{with_set}
-use Rattle.ruby_value.specs.WithoutLine.{without_line}
-use Rattle.ctl_face.specs.Deallocate.{without_line_in}
-use Rattle.ctl_face.specs.FieldsIn.{fields_in}
-use Rattle.ctl_face.specs.Table.{Table, CacheTable, DirectoryTable, TbeTable, ParameterTable}
-use Rattle.ctl_face.specs.Touch.{used_line}
+use Rattle.ruby_value.specs.Prelude.{made_recent, set_of, with_set, without_line}
+use Rattle.ctl_face.specs.Prelude.{without_line_in, fields_in, Table, CacheTable, DirectoryTable, TbeTable, ParameterTable, used_line}
 use Rattle.ctl_tables.specs.declared.change.Edit.TheVariants as edit
 use Rattle.ctl_tables.specs.declared.change.TableChange.{TableChange}
-use Rattle.ctl_tables.specs.Frames.{frame_at, frame_of, keeps_order, loses_lines}
-use Rattle.ctl_tables.specs.TableActs.{after_change_in, change_if_there_in, deallocate_in, fields_at, touch_in}
+use Rattle.ctl_tables.specs.Prelude.{frame_at, frame_of, keeps_order, loses_lines, after_change_in, change_if_there_in, deallocate_in, fields_at, touch_in}
 use Rattle.ctl_tables.proofs.Doing.{IsDone, done_of}
 
 pub set_same : {X : Type 0} (xs : List X) (i : ℕ) (x : X) → slice_get xs i ≡ Some x → set xs i x ≡ xs

@@ -3,11 +3,9 @@ use Rattle.std.proofs.Common.{◌≡◌, ℕ, Bool, true, false, List, Option, N
 use Rattle.std.specs.List.{find}
 use Rattle.std.specs.Option.{IfSome, option_and_then}
 use Rattle.ruby_value.specs.declared.value.Value.{Value}
-use Rattle.ctl_face.specs.Table.{Table}
+use Rattle.ctl_face.specs.Prelude.{Table}
 use Rattle.ctl_tables.specs.declared.change.TableChange.{TableChange}
-use Rattle.ctl_tables.specs.After.{after_changes, IsTable, Replays}
-use Rattle.ctl_tables.specs.TableActs.{fields_at}
-use Rattle.ctl_tables.specs.Told.{tells, told_there, told_value}
+use Rattle.ctl_tables.specs.Prelude.{after_changes, IsTable, Replays, fields_at, tells, told_there, told_value}
 use Rattle.ctl_tables.proofs.Stays.{frame_default, kept_or}
 use Rattle.ctl_tables.proofs.Steps.{default_at, frames_after, kept_at}
 use Rattle.ctl_tables.proofs.Walks.{TellsKept, by_newest, field_is, fields_split, kept_told, value_at, value_told}

@@ -13,27 +13,14 @@ use Rattle.std.specs.List.{filter, find, list_any}
 use Rattle.std.specs.Option.{option_map, option_to_list}
 use Rattle.ruby_value.specs.declared.fault.Fault.TheVariants.{Absent, Full, Present, Reference}
 use Rattle.ruby_value.specs.declared.value.Value.{Value}
-use Rattle.ruby_value.specs.AreLinesOf.{AreLinesOf}
-use Rattle.ruby_value.specs.Available.{available}
-use Rattle.ruby_value.specs.Cache.{Cache, Line}
-use Rattle.ruby_value.specs.FieldsOf.{fields_of}
-use Rattle.ruby_value.specs.MadeRecent.{made_recent}
-use Rattle.ruby_value.specs.SetOf.{set_of}
-use Rattle.ruby_value.specs.WithFields.{with_fields}
-use Rattle.ruby_value.specs.WithSet.{with_set}
-use Rattle.ruby_value.specs.WithoutLine.{without_line}
+use Rattle.ruby_value.specs.Prelude.{AreLinesOf, available, Cache, Line, fields_of, made_recent, set_of, with_fields, with_set, without_line}
 use Rattle.ruby_value.proofs.CacheSets.{set_lines}
-use Rattle.ctl_face.specs.Avail.{least_used_in}
-use Rattle.ctl_face.specs.Set.{table_with_field}
-use Rattle.ctl_face.specs.Table.{Table, CacheTable, DirectoryTable, TbeTable, ParameterTable}
+use Rattle.ctl_face.specs.Prelude.{least_used_in, table_with_field, Table, CacheTable, DirectoryTable, TbeTable, ParameterTable}
 use Rattle.ctl_face.proofs.Cases.{Good, good_ok, good_err, good_cond}
 use Rattle.ctl_tables.specs.declared.change.Edit.{Edit}
 use Rattle.ctl_tables.specs.declared.change.Edit.TheVariants as edit
 use Rattle.ctl_tables.specs.declared.change.TableChange.{TableChange}
-use Rattle.ctl_tables.specs.After.{after_changes, with_change, CanChange, IsTable, Replays}
-use Rattle.ctl_tables.specs.Change.{edit_in, kept_in}
-use Rattle.ctl_tables.specs.Frames.{Frame, frame_at, frame_of, keeps_order}
-use Rattle.ctl_tables.specs.Recency.{edit_moves, edit_uses, first_used, moves, numbers_of, order_after, order_with, share_set, stays_in, used_by, uses_beside}
+use Rattle.ctl_tables.specs.Prelude.{after_changes, with_change, CanChange, IsTable, Replays, edit_in, kept_in, Frame, frame_at, frame_of, keeps_order, edit_moves, edit_uses, first_used, moves, numbers_of, order_after, order_with, share_set, stays_in, used_by, uses_beside}
 use Rattle.ctl_tables.proofs.Sets.{one_set, other_set, same_set}
 use Rattle.ctl_tables.proofs.Stays.{kept_or}
 use Rattle.ctl_tables.proofs.Steps.{changes_or_stays, frames_after, law_after}

@@ -5,14 +5,11 @@ use Rattle.std.proofs.lemmas.List.Elements.{All-push, All-set}
 use Rattle.std.proofs.lemmas.Option.{slice_get-map, slice_get_read, slice_get_past}
 use Rattle.std.specs.Option.{option_map}
 use Rattle.ruby_value.specs.declared.setup.TableSetup.{TableSetup}
-use Rattle.ctl_face.specs.Opening.{opening_table}
-use Rattle.ctl_face.specs.Table.{Table}
+use Rattle.ctl_face.specs.Prelude.{opening_table, Table}
 use Rattle.ctl_tables.specs.declared.change.TableChange.{TableChange}
 use Rattle.ctl_tables.specs.declared.stored.StoredTable.{StoredTable}
 use Rattle.ctl_tables.specs.declared.stored.StoredTable.TheVariants as stored
-use Rattle.ctl_tables.specs.After.{after_changes, or_same, with_change, with_change_in, Replays}
-use Rattle.ctl_tables.specs.Change.{edit_in}
-use Rattle.ctl_tables.specs.Container.{table_of, HasRoom}
+use Rattle.ctl_tables.specs.Prelude.{after_changes, or_same, with_change, with_change_in, Replays, edit_in, table_of, HasRoom}
 
 same_map_set : {X Y : Type 0} (f : X → Y) (xs : List X) (i : ℕ) (x new : X) → x ≡ get_or xs i x → f new ≡ f x → map f (set xs i new) ≡ map f xs
 same_map_set f [] i x new is same = refl

@@ -6,7 +6,7 @@ use Rattle.std.specs.FinMap.{FinMap, get, get-insert}
 use Rattle.std.specs.Map.{lookup}
 use Rattle.std.specs.Option.{unwrap_or}
 use Rattle.std.specs.Ordering.{nat_cmp}
-use Rattle.ruby_value.specs.WithAll.{with_all}
+use Rattle.ruby_value.specs.Prelude.{with_all}
 
 abbrev pub or_before : Option ℕ → Option ℕ → Option ℕ
 or_before None before = before

@@ -8,26 +8,14 @@ use Rattle.std.specs.Option.{unwrap_or}
 use Rattle.std.specs.FinMap as map
 use Rattle.ruby_value.specs.declared.fault.Fault.TheVariants.{Absent, Full, Present, Reference}
 use Rattle.ruby_value.specs.declared.value.Value.{Value}
-use Rattle.ruby_value.specs.Available.{available}
-use Rattle.ruby_value.specs.Cache.{Cache, Line}
-use Rattle.ruby_value.specs.FieldsOf.{fields_of}
-use Rattle.ruby_value.specs.IsCache.{IsCache}
-use Rattle.ruby_value.specs.MadeRecent.{made_recent}
-use Rattle.ruby_value.specs.SetOf.{set_of}
-use Rattle.ruby_value.specs.WithFields.{with_fields}
-use Rattle.ruby_value.specs.WithSet.{with_set}
-use Rattle.ruby_value.specs.WithoutLine.{without_line}
+use Rattle.ruby_value.specs.Prelude.{available, Cache, Line, fields_of, IsCache, made_recent, set_of, with_fields, with_set, without_line}
 use Rattle.ruby_value.proofs.CacheEdits.{IsRead, cache_without, cache_recent, cache_with_fields, cache_push}
 use Rattle.ruby_value.proofs.CacheSets.{set_is}
-use Rattle.ctl_face.specs.FieldsIn.{fields_in}
-use Rattle.ctl_face.specs.Set.{table_with_field}
-use Rattle.ctl_face.specs.Table.{Table, CacheTable, DirectoryTable, TbeTable, ParameterTable}
+use Rattle.ctl_face.specs.Prelude.{fields_in, table_with_field, Table, CacheTable, DirectoryTable, TbeTable, ParameterTable}
 use Rattle.ctl_face.proofs.Cases.{Good, good_ok, good_err, good_cond}
 use Rattle.ctl_tables.specs.declared.change.Edit.{Edit}
 use Rattle.ctl_tables.specs.declared.change.Edit.TheVariants as edit
-use Rattle.ctl_tables.specs.After.{IsTable}
-use Rattle.ctl_tables.specs.Change.{edit_in, kept_in, line_removed}
-use Rattle.ctl_tables.specs.Frames.{Frame, CacheFrame, DirectoryFrame, TbeFrame, ParameterFrame, frame_of}
+use Rattle.ctl_tables.specs.Prelude.{IsTable, edit_in, kept_in, line_removed, Frame, CacheFrame, DirectoryFrame, TbeFrame, ParameterFrame, frame_of}
 
 abbrev pub frame_default : Frame → Option (List Value)
 frame_default (CacheFrame ways sets) = None

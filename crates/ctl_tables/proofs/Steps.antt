@@ -5,11 +5,9 @@ use Rattle.std.proofs.lemmas.Bool.{cases_eq, eq-eqb, ne_eqb}
 use Rattle.std.specs.Option.{IfSome, option_and_then, option_map}
 use Rattle.ruby_value.specs.declared.fault.Fault.{Fault}
 use Rattle.ruby_value.specs.declared.value.Value.{Value}
-use Rattle.ctl_face.specs.Table.{Table}
+use Rattle.ctl_face.specs.Prelude.{Table}
 use Rattle.ctl_tables.specs.declared.change.TableChange.{TableChange}
-use Rattle.ctl_tables.specs.After.{after_changes, with_change, with_change_in, or_same, CanChange, CanEdit, HasFieldOf, IsTable, Replays}
-use Rattle.ctl_tables.specs.Change.{edit_in, kept_in}
-use Rattle.ctl_tables.specs.Frames.{Frame, frame_at, frame_of}
+use Rattle.ctl_tables.specs.Prelude.{after_changes, with_change, with_change_in, or_same, CanChange, CanEdit, HasFieldOf, IsTable, Replays, edit_in, kept_in, Frame, frame_at, frame_of}
 use Rattle.ctl_tables.proofs.Effects.{after_edit, kept_after}
 use Rattle.ctl_tables.proofs.Stays.{frame_default, stays_after}
 

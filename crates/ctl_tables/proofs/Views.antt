@@ -10,23 +10,8 @@ use Rattle.ruby_value.specs.declared.value.Ref.{Ref}
 use Rattle.ruby_value.specs.declared.value.Value.{Value}
 use Rattle.ctl_face.specs.declared.trouble.Trouble.{Trouble}
 use Rattle.ctl_face.specs.declared.trouble.Trouble.TheVariants as trouble
-use Rattle.ctl_face.specs.Allocate.{allocate, with_line}
-use Rattle.ctl_face.specs.Avail.{avail, probe}
-use Rattle.ctl_face.specs.Deallocate.{deallocate, without_line_in}
-use Rattle.ctl_face.specs.Does.{Comes, Does, DoesWith}
-use Rattle.ctl_face.specs.FieldsIn.{fields_in}
-use Rattle.ctl_face.specs.Free.{free}
-use Rattle.ctl_face.specs.Get.{get}
-use Rattle.ctl_face.specs.LocalView.{LocalView, SameScan}
-use Rattle.ctl_face.specs.Lookup.{lookup, reference_to}
-use Rattle.ctl_face.specs.OfMachine.{initial_fields}
-use Rattle.ctl_face.specs.Set.{set as set_field, table_with_field}
-use Rattle.ctl_face.specs.State.{set_state, state}
-use Rattle.ctl_face.specs.Table.{Table}
-use Rattle.ctl_face.specs.Tables.{after_change, change_if_there, changed_table}
-use Rattle.ctl_face.specs.Touch.{touch, used_line}
-use Rattle.ctl_tables.specs.Logged.{DoesIn}
-use Rattle.ctl_tables.specs.TableActs.{after_change_in, allocate_in, avail_from, change_if_there_in, changed_in, deallocate_in, free_from, get_from, lookup_from, probe_from, set_in, touch_in}
+use Rattle.ctl_face.specs.Prelude.{allocate, with_line, avail, probe, deallocate, without_line_in, Comes, Does, DoesWith, fields_in, free, get, LocalView, SameScan, lookup, reference_to, initial_fields, set as set_field, table_with_field, set_state, state, Table, after_change, change_if_there, changed_table, touch, used_line}
+use Rattle.ctl_tables.specs.Prelude.{DoesIn, after_change_in, allocate_in, avail_from, change_if_there_in, changed_in, deallocate_in, free_from, get_from, lookup_from, probe_from, set_in, touch_in}
 
 -- the local with other tables and states
 abbrev pub with_held : LocalView → List Table → map.FinMap nat_cmp ℕ → LocalView

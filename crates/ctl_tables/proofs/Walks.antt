@@ -6,17 +6,11 @@ use Rattle.std.proofs.lemmas.Bool.{cases_Bool, eqb-true, eqb-false, and_parts}
 use Rattle.std.specs.List.{find}
 use Rattle.std.specs.Option.{IfSome, option_and_then, option_map}
 use Rattle.ruby_value.specs.declared.value.Value.{Value}
-use Rattle.ctl_face.specs.FieldsIn.{fields_in}
-use Rattle.ctl_face.specs.Set.{table_with_field}
-use Rattle.ctl_face.specs.Table.{Table}
+use Rattle.ctl_face.specs.Prelude.{fields_in, table_with_field, Table}
 use Rattle.ctl_tables.specs.declared.change.Edit.{Edit}
 use Rattle.ctl_tables.specs.declared.change.Edit.TheVariants as edit
 use Rattle.ctl_tables.specs.declared.change.TableChange.{TableChange}
-use Rattle.ctl_tables.specs.After.{after_changes, with_change, CanChange, HasFieldOf, IsTable, Replays}
-use Rattle.ctl_tables.specs.Change.{edit_in, kept_in}
-use Rattle.ctl_tables.specs.TableActs.{fields_at}
-use Rattle.ctl_tables.specs.Told.{edit_tells, tells, told_there, told_value}
-use Rattle.ctl_tables.specs.Frames.{frame_of}
+use Rattle.ctl_tables.specs.Prelude.{after_changes, with_change, CanChange, HasFieldOf, IsTable, Replays, edit_in, kept_in, fields_at, edit_tells, tells, told_there, told_value, frame_of}
 use Rattle.ctl_tables.proofs.Effects.{after_edit}
 use Rattle.ctl_tables.proofs.Stays.{default_in, frame_default, kept_or, fields_are, removable}
 use Rattle.ctl_tables.proofs.Steps.{step_of, default_at, frame_step, is_of_line, kept_at, kept_step, law_after}

@@ -7,15 +7,10 @@ use Rattle.std.specs.Option.{option_and_then, option_map}
 use Rattle.ruby_value.specs.declared.kind.Kind.{Kind}
 use Rattle.ruby_value.specs.declared.setup.TableSetup.{TableSetup}
 use Rattle.ruby_value.specs.declared.value.Value.{Value}
-use Rattle.ruby_value.specs.HasKind.{has_kind}
-use Rattle.ruby_value.specs.HasKinds.{has_kinds}
-use Rattle.ctl_face.specs.FieldsIn.{fields_in}
-use Rattle.ctl_face.specs.Fits.{FitsTableAt, ScanFits}
-use Rattle.ctl_face.specs.LocalView.{LocalView}
-use Rattle.ctl_face.specs.OfMachine.{field_kinds}
-use Rattle.ctl_face.specs.Table.{Table}
+use Rattle.ruby_value.specs.Prelude.{has_kind, has_kinds}
+use Rattle.ctl_face.specs.Prelude.{fields_in, FitsTableAt, ScanFits, LocalView, field_kinds, Table}
 use Rattle.ctl_face.proofs.TableCalls.{kinds_in}
-use Rattle.ctl_tables.specs.TableActs.{fields_at}
+use Rattle.ctl_tables.specs.Prelude.{fields_at}
 
 as_many : (kinds : List Kind) (values : List Value) → IsTrue (has_kinds kinds values) → length values ≡ length kinds
 as_many [] [] all = refl

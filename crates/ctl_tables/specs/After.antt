@@ -2,8 +2,8 @@
 -- made, or is of a table that isn't there, changes nothing. `Replays` says that each change could be made in its turn, with a field
 -- that is there.
 use Rattle.std.specs.Prelude.{Option, None, Some, List, [], ◌∷◌, Result, Ok, Err, IsOk, IfSome, IsSomeAnd, ◌<◌, length, slice_get, slice_set}
-use Rattle.ruby_value.specs.IsCache.{IsCache}
-use Rattle.ctl_face.specs.Table.{Table, CacheTable, DirectoryTable, TbeTable, ParameterTable}
+use Rattle.ruby_value.specs.Prelude.{IsCache}
+use Rattle.ctl_face.specs.Prelude.{Table, CacheTable, DirectoryTable, TbeTable, ParameterTable}
 use Rattle.ruby_value.specs.declared.value.Value.{Value}
 use Rattle.ctl_tables.specs.declared.change.Edit.{Edit}
 use Rattle.ctl_tables.specs.declared.change.Edit.TheVariants as edit

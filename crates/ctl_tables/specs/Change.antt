@@ -6,12 +6,7 @@ use Rattle.std.specs.FinMap as map
 use Rattle.ruby_value.specs.declared.fault.Fault.{Fault}
 use Rattle.ruby_value.specs.declared.fault.Fault.TheVariants.{Reference}
 use Rattle.ruby_value.specs.declared.value.Value.{Value}
-use Rattle.ctl_face.specs.Allocate.{with_line}
-use Rattle.ctl_face.specs.Deallocate.{without_line_in}
-use Rattle.ctl_face.specs.FieldsIn.{fields_in, with_fields_in}
-use Rattle.ctl_face.specs.Set.{table_with_field}
-use Rattle.ctl_face.specs.Table.{Table, CacheTable, DirectoryTable, TbeTable, ParameterTable}
-use Rattle.ctl_face.specs.Touch.{used_line}
+use Rattle.ctl_face.specs.Prelude.{with_line, without_line_in, fields_in, with_fields_in, table_with_field, Table, CacheTable, DirectoryTable, TbeTable, ParameterTable, used_line}
 use Rattle.ctl_tables.specs.declared.change.Edit.{Edit}
 use Rattle.ctl_tables.specs.declared.change.Edit.TheVariants as edit
 

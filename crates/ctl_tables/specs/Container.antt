@@ -1,7 +1,7 @@
 -- The table that a container keeps, and whether it has room for so many more lines, which are then put in without memory. How much
 -- room there is isn't part of a table. A cache has places for all its lines from the start, and parameters are one line.
 use Rattle.std.specs.Prelude.{ℕ, ◌≤◌}
-use Rattle.ctl_face.specs.Table.{Table, CacheTable, DirectoryTable, TbeTable, ParameterTable}
+use Rattle.ctl_face.specs.Prelude.{Table, CacheTable, DirectoryTable, TbeTable, ParameterTable}
 use Rattle.ctl_tables.specs.declared.stored.StoredTable.{StoredTable}
 use Rattle.ctl_tables.specs.declared.stored.StoredTable.TheVariants as stored
 

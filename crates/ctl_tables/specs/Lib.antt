@@ -9,3 +9,4 @@ pub mod Stored
 pub mod TableActs
 pub mod Told
 pub mod Ways
+pub mod Prelude

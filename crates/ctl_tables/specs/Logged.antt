@@ -5,7 +5,7 @@ use Rattle.std.specs.Prelude.{◌≡◌, List, Result, Ok, Err}
 use Rattle.ruby_value.specs.declared.fault.Fault.{Fault}
 use Rattle.ctl_face.specs.declared.trouble.Trouble.{Trouble}
 use Rattle.ctl_face.specs.declared.trouble.Trouble.TheVariants as trouble
-use Rattle.ctl_face.specs.Table.{Table}
+use Rattle.ctl_face.specs.Prelude.{Table}
 
 abbrev pub DoesIn : {A : Type 0} → Result (List Table) Fault → Result A Trouble → List Table → List Table → Type 0
 DoesIn want (Ok a) old new = want ≡ Ok new

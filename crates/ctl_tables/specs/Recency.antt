@@ -2,7 +2,7 @@
 -- adds a line, takes it out or uses it takes it from its place, and one that adds or uses it puts it at the end.
 use Rattle.std.specs.Prelude.{ℕ, ◌%◌, Bool, true, false, not, Option, None, Some, List, [], ◌∷◌, ◌++◌, map, ◌==◌, ◌&&◌, if◌then◌else◌}
 use Rattle.std.specs.List.{filter, list_any}
-use Rattle.ruby_value.specs.Cache.{Line}
+use Rattle.ruby_value.specs.Prelude.{Line}
 use Rattle.ctl_tables.specs.declared.change.Edit.{Edit}
 use Rattle.ctl_tables.specs.declared.change.Edit.TheVariants as edit
 use Rattle.ctl_tables.specs.declared.change.TableChange.{TableChange}

@@ -4,8 +4,8 @@ use Rattle.std.specs.Prelude.{ℕ, ◌≤◌, List, length, map, reverse}
 use Rattle.std.specs.FinMap as finmap
 use Rattle.std.specs.List.{All}
 use Rattle.std.specs.Ordering.{nat_cmp}
-use Rattle.ruby_value.specs.WithAll.{with_all}
-use Rattle.ctl_face.specs.Table.{Table}
+use Rattle.ruby_value.specs.Prelude.{with_all}
+use Rattle.ctl_face.specs.Prelude.{Table}
 use Rattle.ctl_tables.specs.declared.change.TableChange.{TableChange}
 use Rattle.ctl_tables.specs.declared.change.TableChanges.{TableChanges}
 use Rattle.ctl_tables.specs.declared.held.Tables.{Tables}

@@ -6,15 +6,7 @@ use Rattle.ruby_value.specs.declared.fault.Fault.{Fault}
 use Rattle.ruby_value.specs.declared.fault.Fault.TheVariants.{Probe, Reference}
 use Rattle.ruby_value.specs.declared.value.Ref.{Ref}
 use Rattle.ruby_value.specs.declared.value.Value.{Value}
-use Rattle.ctl_face.specs.Allocate.{with_line}
-use Rattle.ctl_face.specs.Avail.{available_in, least_used_in}
-use Rattle.ctl_face.specs.Deallocate.{without_line_in}
-use Rattle.ctl_face.specs.FieldsIn.{fields_in}
-use Rattle.ctl_face.specs.Free.{free_in}
-use Rattle.ctl_face.specs.Lookup.{reference_to}
-use Rattle.ctl_face.specs.Set.{table_with_field}
-use Rattle.ctl_face.specs.Table.{Table}
-use Rattle.ctl_face.specs.Touch.{used_line}
+use Rattle.ctl_face.specs.Prelude.{with_line, available_in, least_used_in, without_line_in, fields_in, free_in, reference_to, table_with_field, Table, used_line}
 
 -- the fields of a line, if the table and the line are there
 abbrev pub fields_at : List Table → ℕ → ℕ → Option (List Value)

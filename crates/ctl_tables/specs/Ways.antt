@@ -3,8 +3,7 @@
 use Rattle.std.specs.Prelude.{◌≡◌, ℕ, None, List, IsSome, IsSomeAnd, slice_get}
 use Rattle.std.specs.FinMap as map
 use Rattle.ruby_value.specs.declared.value.Value.{Value}
-use Rattle.ctl_face.specs.FieldsIn.{fields_in}
-use Rattle.ctl_face.specs.Table.{Table, CacheTable, DirectoryTable, TbeTable, ParameterTable}
+use Rattle.ctl_face.specs.Prelude.{fields_in, Table, CacheTable, DirectoryTable, TbeTable, ParameterTable}
 use Rattle.ctl_tables.specs.declared.ways.Way.{Way}
 use Rattle.ctl_tables.specs.declared.ways.Way.TheVariants as way
 use Rattle.ctl_tables.specs.Change.{kept_in}

@@ -3,7 +3,7 @@ ghost use Rattle.std.specs.Prelude.{◌≡◌, ◌<◌, ◌∷◌, IfErr, IfOk, 
 ghost use Rattle.ctl_tables.specs.Logged.{DoesIn};
 ghost use Rattle.ctl_tables.specs.Stored.{log_of, state_log_of, states_now, tables_now, AreOf};
 ghost use Rattle.ctl_tables.specs.TableActs.{fields_at, set_in};
-ghost use Rattle.ctl_tables.specs.declared.change.TableChange.{TableChange as ChangeRecord};
+ghost use Rattle.ctl_tables.specs.declared.change.TableChange.{TableChange};
 
 use crate::change::{Edit, TableChange, TableChanges};
 use crate::held::Tables;

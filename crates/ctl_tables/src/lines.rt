@@ -1,6 +1,6 @@
 // What puts a line into a controller's tables or takes one out, and what changes the order of use.
 ghost use Rattle.std.specs.Prelude.{◌≡◌, IfOk, IfSome, slice_get};
-ghost use Rattle.ctl_face.specs.Lookup.{reference_to};
+ghost use Rattle.ctl_face.specs.Prelude.{reference_to};
 ghost use Rattle.ctl_tables.specs.After.{IsTable};
 ghost use Rattle.ctl_tables.specs.Frames.{frame_at, keeps_order, loses_lines};
 ghost use Rattle.ctl_tables.specs.Logged.{DoesIn};

@@ -2,7 +2,7 @@
 ghost use Rattle.std.specs.Prelude.{◌≡◌, is_some, IfSome};
 ghost use Rattle.std.specs.Option.{option_copied, option_and_then, option_map};
 ghost use Rattle.std.specs.Prelude.{slice_get};
-ghost use Rattle.ctl_face.specs.Does.{Reads};
+ghost use Rattle.ctl_face.specs.Prelude.{Reads};
 ghost use Rattle.ctl_tables.specs.After.{IsTable};
 ghost use Rattle.ctl_tables.specs.Container.{table_of};
 ghost use Rattle.ctl_tables.specs.Stored.{AreOf, tables_now, tables_of};

@@ -1,10 +1,8 @@
 // The least recently used line of a set of a cache, through the changes of a scan.
 ghost use Rattle.std.specs.Prelude.{◌≡◌, ◌&&◌, false, Some, IfErr, IfNone, IfSome, reverse, slice_get};
 ghost use Rattle.std.specs.List.{find, list_any};
-ghost use Rattle.ruby_value.specs.SetOf.{set_of};
-ghost use Rattle.ctl_face.specs.Avail.{least_used_in};
-ghost use Rattle.ctl_face.specs.Does.{Reads};
-ghost use Rattle.ctl_face.specs.Table.{CacheTable};
+ghost use Rattle.ruby_value.specs.Prelude.{set_of};
+ghost use Rattle.ctl_face.specs.Prelude.{least_used_in, Reads, CacheTable};
 ghost use Rattle.ctl_tables.specs.Container.{table_of};
 ghost use Rattle.ctl_tables.specs.Frames.{frame_of, keeps_order};
 ghost use Rattle.ctl_tables.specs.Recency.{edit_moves, edit_uses, first_used, moves, numbers_of, order_after, stays_in, uses_beside};

@@ -1,11 +1,7 @@
 // A table in the container that keeps it, and what one change does to it.
 ghost use Rattle.std.specs.Prelude.{◌≡◌, ◌+◌, ◌≤◌, ◌<◌, ℕ, IfOk, OnOk, Some, is_some, slice_get};
 ghost use Rattle.std.specs.Option.{option_and_then, option_copied};
-ghost use Rattle.ctl_face.specs.Allocate.{with_line};
-ghost use Rattle.ctl_face.specs.FieldsIn.{fields_in};
-ghost use Rattle.ctl_face.specs.IsMachine.{HasPlaces};
-ghost use Rattle.ctl_face.specs.Opening.{opening_table};
-ghost use Rattle.ctl_face.specs.Table.{TbeTable as TbeRecord};
+ghost use Rattle.ctl_face.specs.Prelude.{with_line, fields_in, HasPlaces, opening_table, TbeTable as TbeRecord};
 ghost use Rattle.ctl_tables.specs.After.{or_same, IsTable};
 ghost use Rattle.ctl_tables.specs.Change.{edit_in};
 ghost use Rattle.ctl_tables.specs.Frames.{frame_of, keeps_order, loses_lines};

@@ -1,8 +1,7 @@
 ghost use Rattle.std.specs.Prelude.{◌≡◌, ◌+◌, ℕ, IfOk, OnOk, map, unwrap_or, vec_len};
 ghost use Rattle.std.specs.List.{All};
-ghost use Rattle.ruby_value.specs.declared.setup.TableSetup.{TableSetup as SetupRecord};
-ghost use Rattle.ctl_face.specs.IsMachine.{HasPlaces, IsMachine};
-ghost use Rattle.ctl_face.specs.Opening.{opening_ctl, opening_table};
+ghost use Rattle.ruby_value.specs.declared.setup.TableSetup.{TableSetup};
+ghost use Rattle.ctl_face.specs.Prelude.{HasPlaces, IsMachine, opening_ctl, opening_table};
 ghost use Rattle.ctl_tables.specs.After.{after_changes, with_change};
 ghost use Rattle.ctl_tables.specs.Container.{table_of, HasRoom};
 ghost use Rattle.ctl_tables.specs.Stored.{default_of, states_now, states_of, tables_now, tables_of, AreOf, HasRoomFor};
@@ -71,9 +70,9 @@ impl Tables {
 
 // The tables of a machine's setup as a run begins.
 fn open_all(alloc: Global, setups: &[TableSetup]) -> Result<Vec<StoredTable>, NoMemory>
-    requires { All (λ (s : SetupRecord). HasPlaces s.size) setups.now }
+    requires { All (λ (s : TableSetup). HasPlaces s.size) setups.now }
     ensures { IfOk result (λ ts. map table_of ts.items
-        ≡ map (λ (s : SetupRecord). opening_table s.size s.initial) setups.now) }
+        ≡ map (λ (s : TableSetup). opening_table s.size s.initial) setups.now) }
 {
     let mut tables = Vec::with_capacity(alloc, setups.len())?;
     for setup in setups {

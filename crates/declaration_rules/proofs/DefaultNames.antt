@@ -4,8 +4,7 @@ use Rattle.std.specs.List.{list_any}
 use Rattle.std.specs.Str.{bytes_eq}
 use Rattle.std.proofs.lemmas.Bool.Decides.{same_from_decides, Decides-like}
 use Rattle.std.proofs.lemmas.Slice.Eq.{bytes_eq-Decides}
-use Rattle.slicc_plan.specs.BuiltIn.{is_among}
-use Rattle.slicc_plan.specs.Values.{default_name}
+use Rattle.slicc_plan.specs.Prelude.{is_among, default_name}
 use Rattle.declared_types.proofs.NameParts.{list_any_map, list_any_none, list_any_same, same_prefix}
 
 pub bytes_eq-swapped : (xs ys : List ℕ) → bytes_eq xs ys ≡ bytes_eq ys xs

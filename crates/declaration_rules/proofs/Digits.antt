@@ -4,10 +4,10 @@ use Rattle.std.specs.List.{list_all}
 use Rattle.std.specs.Str.{bytes_eq}
 use Rattle.std.proofs.lemmas.Slice.Eq.{bytes_eq-Decides}
 use Rattle.std.proofs.lemmas.Bool.{and_parts, eqb-true}
-use Rattle.slicc_plan.specs.Attributes.{digit_value, digits_number, is_digit, is_hexadecimal, number_in_range, spelled_number}
+use Rattle.slicc_plan.specs.Prelude.{digit_value, digits_number, is_digit, is_hexadecimal, number_in_range, spelled_number}
 use Rattle.declaration_rules.specs.declared.numbers.Base.{Base}
 use Rattle.declaration_rules.specs.declared.numbers.Base.TheVariants.{Decimal, Hexadecimal}
-use Rattle.declaration_rules.specs.Numbers.{base_of, digits_in, is_right_in, read_from}
+use Rattle.declaration_rules.specs.Prelude.{base_of, digits_in, is_right_in, read_from}
 
 abbrev pub in_range : Option ℕ → Option ℕ
 in_range o = option_and_then number_in_range o

@@ -5,9 +5,8 @@ use Rattle.slicc_ast.specs.declared.tree.declaration.Pair.{Pair}
 use Rattle.slicc_ast.specs.declared.tree.declaration.Pairs.{Pairs}
 use Rattle.slicc_ast.specs.declared.tree.declaration.PairValue.{PairValue}
 use Rattle.slicc_plan.specs.declared.broken.Broken.{Broken}
-use Rattle.slicc_plan.specs.Attributes.{Attribute, attribute_in}
-use Rattle.slicc_plan.specs.Values.{bad_attributes, bad_value}
-use Rattle.declaration_rules.specs.PairValues.{bad_attribute, bad_pair, told_bad}
+use Rattle.slicc_plan.specs.Prelude.{Attribute, attribute_in, bad_attributes, bad_value}
+use Rattle.declaration_rules.specs.Prelude.{bad_attribute, bad_pair, told_bad}
 
 abbrev pub places : List Attribute → List Broken
 places found = map (λ (a : Attribute). bad_value a.place) found

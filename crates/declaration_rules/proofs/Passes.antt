@@ -2,11 +2,8 @@
 use Rattle.std.proofs.Common.{◌≡◌, List, flat_map, ◌∙◌, sym}
 use Rattle.slicc_ast.specs.declared.tree.item.Tree.{Tree}
 use Rattle.slicc_plan.specs.declared.broken.Broken.{Broken}
-use Rattle.slicc_plan.specs.Declarations.{declared_in, wide_scopes}
-use Rattle.slicc_plan.specs.FieldTypes.{FieldIn, all_fields, fields_of, fields_within, refused_field, refused_field_types}
-use Rattle.slicc_plan.specs.UnknownTypes.{unknown_in, unknown_types, unknown_use, uses_in}
-use Rattle.slicc_plan.specs.Values.{bad_field_defaults}
-use Rattle.declaration_rules.specs.Judging.{broken_in, field_default, field_defaults_of, refused_of, unknown_of}
+use Rattle.slicc_plan.specs.Prelude.{declared_in, wide_scopes, FieldIn, all_fields, fields_of, fields_within, refused_field, refused_field_types, unknown_in, unknown_types, unknown_use, uses_in, bad_field_defaults}
+use Rattle.declaration_rules.specs.Prelude.{broken_in, field_default, field_defaults_of, refused_of, unknown_of}
 use Rattle.declaration_rules.proofs.Steps.{flat_map-flat_map, flat_map_same}
 
 pub unknown_by_each : (trees : List Tree) → flat_map (broken_in unknown_of trees) (wide_scopes trees) ≡ unknown_types trees

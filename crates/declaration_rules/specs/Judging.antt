@@ -2,10 +2,7 @@
 use Rattle.std.specs.Prelude.{List, flat_map}
 use Rattle.slicc_ast.specs.declared.tree.item.Tree.{Tree}
 use Rattle.slicc_plan.specs.declared.broken.Broken.{Broken}
-use Rattle.slicc_plan.specs.Declarations.{Declaration, Scope, declared_in, machine_names}
-use Rattle.slicc_plan.specs.FieldTypes.{FieldIn, field_type, fields_of, refused_field}
-use Rattle.slicc_plan.specs.UnknownTypes.{TypeUse, unknown_use, uses_in}
-use Rattle.slicc_plan.specs.Values.{bad_field_default}
+use Rattle.slicc_plan.specs.Prelude.{Declaration, Scope, declared_in, machine_names, FieldIn, field_type, fields_of, refused_field, TypeUse, unknown_use, uses_in, bad_field_default}
 
 abbrev pub broken_in : (List Tree → Scope → Declaration → List Broken) → List Tree → Scope → List Broken
 broken_in broken_of trees scope = flat_map (broken_of trees scope) (declared_in trees scope)

@@ -2,3 +2,4 @@ pub mod Judging
 pub mod Members
 pub mod Numbers
 pub mod PairValues
+pub mod Prelude

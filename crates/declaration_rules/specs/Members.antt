@@ -1,7 +1,6 @@
 -- The members of any type.
 use Rattle.std.specs.Prelude.{ℕ, List, []}
-use Rattle.slicc_plan.specs.BuiltIn.{members_of}
-use Rattle.slicc_plan.specs.Types.{KnownType, built_in, enumerated, structured}
+use Rattle.slicc_plan.specs.Prelude.{members_of, KnownType, built_in, enumerated, structured}
 
 -- the members of a type, none where it is no enumeration, in a protocol with machines of these names
 abbrev pub members_in : List (List ℕ) → KnownType → List (List ℕ)

@@ -1,6 +1,6 @@
 -- How digits are read one by one.
 use Rattle.std.specs.Prelude.{◌+◌, ◌*◌, ℕ, Bool, Option, None, Some, cond, List, [], ◌∷◌}
-use Rattle.slicc_plan.specs.Attributes.{digit_value, digits_number, is_digit, is_hexadecimal}
+use Rattle.slicc_plan.specs.Prelude.{digit_value, digits_number, is_digit, is_hexadecimal}
 use Rattle.declaration_rules.specs.declared.numbers.Base.{Base}
 use Rattle.declaration_rules.specs.declared.numbers.Base.TheVariants.{Decimal, Hexadecimal}
 

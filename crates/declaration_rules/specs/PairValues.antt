@@ -4,8 +4,7 @@ use Rattle.slicc_ast.specs.declared.tree.span.Span.{Span}
 use Rattle.slicc_ast.specs.declared.tree.declaration.Pair.{Pair}
 use Rattle.slicc_ast.specs.declared.tree.declaration.PairValue.{PairValue}
 use Rattle.slicc_plan.specs.declared.broken.Broken.{Broken}
-use Rattle.slicc_plan.specs.Attributes.{Attribute, attribute_in}
-use Rattle.slicc_plan.specs.Values.{bad_value}
+use Rattle.slicc_plan.specs.Prelude.{Attribute, attribute_in, bad_value}
 
 abbrev pub told_bad : Bool → Span → List Broken
 told_bad is_right place = cond is_right [] (bad_value place ∷ [])

@@ -2,46 +2,18 @@
 ghost use Rattle.std.specs.Prelude.{◌≡◌, ◌++◌, ℕ, List, false, map, MatchOption};
 ghost use Rattle.std.specs.List.{list_any};
 ghost use Rattle.std.specs.Str.{bytes_eq};
-ghost use Rattle.slicc_ast.specs.declared.tree.declaration.State.{State as StateRecord};
-ghost use Rattle.slicc_ast.specs.declared.tree.declaration.Symbol.{Symbol as SymbolRecord};
-ghost use Rattle.slicc_plan.specs.BuiltIn.{is_among, members_of};
-ghost use Rattle.slicc_plan.specs.Declarations.{machine_names};
-ghost use Rattle.slicc_plan.specs.Values.{default_name, default_names};
-ghost use Rattle.declared_types.specs.Types.{texts_of};
-ghost use Rattle.declared_types.specs.Lent.{scope_of, type_of};
-ghost use Rattle.declaration_rules.specs.Members.{members_in};
+ghost use Rattle.slicc_plan.specs.Prelude.{is_among, members_of, machine_names, default_name, default_names};
+ghost use Rattle.declared_types.specs.Prelude.{scope_of, type_of};
+ghost use Rattle.declaration_rules.specs.Prelude.{members_in};
 
-use declared_types::{KnownType, Scope, Scopes, after_prefix, fixed_members};
-use slicc_ast::tree::{State, Symbol};
+use declared_types::{KnownType, Named, Scope, Scopes, after_prefix, fixed_members};
 use slicc_plan::BuiltInType;
 
-fn has_symbol(members: &[Symbol], name: &[u8]) -> bool
-    ensures { result ≡ is_among (map (λ (s : SymbolRecord). s.name.text) members.now) name.now }
+fn has_named<T: Named>(members: &[T], name: &[u8]) -> bool
+    ensures { result ≡ is_among (map T.text members.now) name.now }
 {
-    for s in members {
-        if s.name.text.as_slice() == name {
-            return true;
-        }
-    }
-    false
-}
-
-fn has_state(members: &[State], name: &[u8]) -> bool
-    ensures { result ≡ is_among (map (λ (s : StateRecord). s.name.text) members.now) name.now }
-{
-    for s in members {
-        if s.name.text.as_slice() == name {
-            return true;
-        }
-    }
-    false
-}
-
-fn has_text(names: &[&str], name: &[u8]) -> bool
-    ensures { result ≡ is_among (texts_of names.now) name.now }
-{
-    for n in names {
-        if n.as_bytes() == name {
+    for m in members {
+        if m.text() == name {
             return true;
         }
     }
@@ -53,27 +25,7 @@ fn has_built_in(scopes: &Scopes<'_>, b: BuiltInType, name: &[u8]) -> bool
 {
     match b {
         BuiltInType::MachineType => scopes.has_machine(name),
-        BuiltInType::AccessPermission => {
-            has_text(fixed_members(BuiltInType::AccessPermission), name)
-        }
-        BuiltInType::RequestType => has_text(fixed_members(BuiltInType::RequestType), name),
-        BuiltInType::MessageSize => has_text(fixed_members(BuiltInType::MessageSize), name),
-        BuiltInType::Int
-        | BuiltInType::Cycles
-        | BuiltInType::Tick
-        | BuiltInType::Bool
-        | BuiltInType::Address
-        | BuiltInType::MachineId
-        | BuiltInType::NetDest
-        | BuiltInType::DataBlock
-        | BuiltInType::Request
-        | BuiltInType::AbstractEntry
-        | BuiltInType::Void
-        | BuiltInType::Cache
-        | BuiltInType::Directory
-        | BuiltInType::TbeTable
-        | BuiltInType::Sequencer
-        | BuiltInType::Buffer => false,
+        _ => has_named(fixed_members(b), name),
     }
 }
 
@@ -83,14 +35,14 @@ pub fn has_member(scopes: &Scopes<'_>, t: KnownType<'_>, name: &[u8]) -> bool
 {
     match t {
         KnownType::BuiltIn(b) => has_built_in(scopes, b, name),
-        KnownType::Enumeration(_, e) => has_symbol(&e.members, name),
-        KnownType::States(_, s) => has_state(&s.members, name),
+        KnownType::Enumeration(_, e) => has_named(&e.members, name),
+        KnownType::States(_, s) => has_named(&s.members, name),
         KnownType::Structure(..) => false,
     }
 }
 
-// The member that a text names with this name before it.
-fn default_part<'a>(text: &'a [u8], own: &[u8]) -> Option<&'a [u8]>
+/// The member that a text names with this name before it.
+pub fn default_part<'a>(text: &'a [u8], own: &[u8]) -> Option<&'a [u8]>
     ensures { MatchOption result ((rest : List ℕ) → bytes_eq (default_name own.now rest) text.now ≡ false) (λ rest. text.now ≡ default_name own.now rest.now) }
 {
     match after_prefix(text, own) {

@@ -1,6 +1,6 @@
 //! The numbers that attributes are.
 ghost use Rattle.std.specs.Prelude.{◌≡◌, ◌+◌, ◌*◌, ◌<◌, ◌^◌, option_and_then};
-ghost use Rattle.slicc_plan.specs.Attributes.{digit_value, number_in_range, number_value, spelled_number};
+ghost use Rattle.slicc_plan.specs.Prelude.{digit_value, number_in_range, number_value, spelled_number};
 ghost use Rattle.declaration_rules.specs.Numbers.{base_of, digits_in, is_right_in, read_from};
 
 use declared_types::after_prefix;

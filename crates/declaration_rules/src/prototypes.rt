@@ -1,14 +1,11 @@
 //! A prototype and an external structure bear a built-in name.
 ghost use Rattle.std.specs.Prelude.{◌≡◌, flat_map};
-ghost use Rattle.slicc_plan.specs.BuiltInCalls.{is_call};
-ghost use Rattle.slicc_plan.specs.Declarations.{is_external, machine_names};
-ghost use Rattle.slicc_plan.specs.Order.{first_after};
-ghost use Rattle.slicc_plan.specs.Prototypes.{told_unless, unknown_built_in, unknown_method, unknown_prototype, unknown_structure};
+ghost use Rattle.slicc_plan.specs.Prelude.{is_call, is_external, machine_names, first_after, told_unless, unknown_built_in, unknown_method, unknown_prototype, unknown_structure};
 
-use crate::rule::DeclarationRule;
+use crate::rule::{DeclarationRule, earlier_at};
 use declared_types::{Declared, Scopes, is_call_name, is_external, table_named};
 use slicc_ast::tree::{Function, Member, Structure};
-use slicc_plan::{Broken, Rule, Span, earlier_broken};
+use slicc_plan::{Broken, Rule, Span};
 
 /// Prototypes and external structures bear built-in names.
 pub struct Prototypes;
@@ -20,15 +17,7 @@ fn told_unless(first: Option<Broken>, is_right: bool, place: Span) -> Option<Bro
     if is_right {
         return first;
     }
-    earlier_broken(
-        first,
-        Broken {
-            rule: Rule::NotBuiltIn,
-            machine: 0,
-            place,
-            other: None,
-        },
-    )
+    earlier_at(first, Rule::NotBuiltIn, 0, place)
 }
 
 // Whether a call has this name, in a protocol with these machines.
@@ -95,14 +84,7 @@ impl DeclarationRule for Prototypes {
         match d {
             Declared::Structure(s) => judge_structure(first, scopes, s),
             Declared::Function(f) => judge_prototype(first, scopes, f),
-            Declared::Machine(_)
-            | Declared::Enumeration(_)
-            | Declared::States(_)
-            | Declared::Parameter(_)
-            | Declared::Object(_)
-            | Declared::OutPort(_)
-            | Declared::InPort(_)
-            | Declared::Action(_) => first,
+            _ => first,
         }
     }
 }

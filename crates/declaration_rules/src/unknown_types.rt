@@ -1,25 +1,22 @@
 //! The names of types outside of bodies are known in their scopes.
 ghost use Rattle.std.specs.Prelude.{◌≡◌, ℕ, List, cond, [], ◌∷◌, map, flat_map};
 ghost use Rattle.std.specs.Option.{option_map};
-ghost use Rattle.slicc_ast.specs.declared.tree.span.Span.{Span as SpanRecord};
-ghost use Rattle.slicc_plan.specs.Declarations.{is_external};
-ghost use Rattle.slicc_plan.specs.Order.{first_after};
-ghost use Rattle.slicc_plan.specs.UnknownTypes.{formal_use, function_uses, is_unknown, member_uses, state_use, unknown_use, use_of};
-ghost use Rattle.declared_types.specs.Lent.{type_of};
-ghost use Rattle.declared_types.specs.Scopes.{scope_at};
+ghost use Rattle.slicc_ast.specs.declared.tree.span.Span.{Span};
+ghost use Rattle.slicc_plan.specs.Prelude.{is_external, first_after, formal_use, function_uses, is_unknown, member_uses, state_use, unknown_use, use_of};
+ghost use Rattle.declared_types.specs.Prelude.{type_of, scope_at};
 ghost use Rattle.declaration_rules.specs.Judging.{unknown_of, unknown_uses};
 
-use crate::rule::DeclarationRule;
+use crate::rule::{DeclarationRule, earlier_at};
 use declared_types::{Declared, KnownType, Scopes, is_external};
 use slicc_ast::tree::{Formal, Function, Member, State, Structure, TypeName};
-use slicc_plan::{Broken, BuiltInType, Rule, Span, Text, earlier_broken};
+use slicc_plan::{Broken, BuiltInType, Rule, Span, Text};
 
 /// The names of types are known.
 pub struct KnownTypes;
 
 // Whether a name that stands for this is unknown to formals of prototypes or to others.
 fn is_unknown(t: Option<KnownType<'_>>, is_of_prototype: bool) -> bool
-    ensures { (text : List ℕ) (place : SpanRecord) → result ≡ is_unknown (record { text = text; place = place; is_of_prototype = is_of_prototype }) (option_map type_of t.entry) }
+    ensures { (text : List ℕ) (place : Span) → result ≡ is_unknown (record { text = text; place = place; is_of_prototype = is_of_prototype }) (option_map type_of t.entry) }
 {
     match t {
         None => true,
@@ -41,15 +38,7 @@ fn judge_use(
     if !is_unknown(scopes.type_in(number, text), is_of_prototype) {
         return first;
     }
-    earlier_broken(
-        first,
-        Broken {
-            rule: Rule::UnknownType,
-            machine: 0,
-            place,
-            other: None,
-        },
-    )
+    earlier_at(first, Rule::UnknownType, 0, place)
 }
 
 fn judge_type(

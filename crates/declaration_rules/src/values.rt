@@ -1,19 +1,16 @@
 //! The values of attributes, and the literals of parameters.
 ghost use Rattle.std.specs.Prelude.{◌≡◌, [], cond};
 ghost use Rattle.std.specs.Option.{option_map};
-ghost use Rattle.slicc_plan.specs.BuiltIn.{type_number};
-ghost use Rattle.slicc_plan.specs.Order.{first_after};
-ghost use Rattle.slicc_plan.specs.Types.{is_built_in};
-ghost use Rattle.slicc_plan.specs.Values.{bad_attributes, bad_buffer_attributes, bad_entries, bad_literal, bad_object_attributes, is_either, is_number_within, is_right_literal, literal_span};
-ghost use Rattle.declared_types.specs.Types.{as_nature};
-ghost use Rattle.declared_types.specs.Lent.{type_of};
-ghost use Rattle.declaration_rules.specs.PairValues.{bad_pair, told_bad};
+ghost use Rattle.slicc_plan.specs.Prelude.{is_same_type, first_after, is_built_in, bad_attributes, bad_buffer_attributes, bad_entries, bad_literal, bad_object_attributes, is_either, is_number_within, is_right_literal, literal_span};
+ghost use Rattle.declared_types.specs.Prelude.{as_nature, type_of};
+ghost use Rattle.declaration_rules.specs.Prelude.{bad_pair, told_bad};
 
-use crate::field_types::nature_in;
+use crate::field_rules::nature_in;
 use crate::numbers::number_value;
+use crate::rule::earlier_at;
 use declared_types::{KnownType, Nature, attribute_in, is_word};
 use slicc_ast::tree::{Literal, Pair, PairValue, Pairs};
-use slicc_plan::{Broken, BuiltInType, Rule, Span, earlier_broken};
+use slicc_plan::{Broken, BuiltInType, Rule, Span};
 
 // The first broken rule, where a value that has to be right is or isn't.
 pub fn told_bad(first: Option<Broken>, is_right: bool, place: Span) -> Option<Broken>
@@ -22,15 +19,7 @@ pub fn told_bad(first: Option<Broken>, is_right: bool, place: Span) -> Option<Br
     if is_right {
         return first;
     }
-    earlier_broken(
-        first,
-        Broken {
-            rule: Rule::BadValue,
-            machine: 0,
-            place,
-            other: None,
-        },
-    )
+    earlier_at(first, Rule::BadValue, 0, place)
 }
 
 pub fn is_either(value: &PairValue, one: &[u8], other: &[u8]) -> bool
@@ -140,43 +129,13 @@ fn judge_if_table(first: Option<Broken>, is_table: bool, pairs: &Pairs) -> Optio
     }
 }
 
-fn type_number(b: BuiltInType) -> u8
-    ensures { result ≡ type_number b }
-{
-    match b {
-        BuiltInType::Int => 0,
-        BuiltInType::Cycles => 1,
-        BuiltInType::Tick => 2,
-        BuiltInType::Bool => 3,
-        BuiltInType::Address => 4,
-        BuiltInType::MachineId => 5,
-        BuiltInType::MachineType => 6,
-        BuiltInType::NetDest => 7,
-        BuiltInType::DataBlock => 8,
-        BuiltInType::AccessPermission => 9,
-        BuiltInType::RequestType => 10,
-        BuiltInType::MessageSize => 11,
-        BuiltInType::Request => 12,
-        BuiltInType::AbstractEntry => 13,
-        BuiltInType::Void => 14,
-        BuiltInType::Cache => 15,
-        BuiltInType::Directory => 16,
-        BuiltInType::TbeTable => 17,
-        BuiltInType::Sequencer => 18,
-        BuiltInType::Buffer => 19,
-    }
-}
-
 /// Whether a name stands for this built-in type.
 pub fn is_built_in(b: BuiltInType, t: Option<KnownType<'_>>) -> bool
     ensures { result ≡ is_built_in b (option_map type_of t.entry) }
 {
     match t {
-        Some(KnownType::BuiltIn(c)) => type_number(b) == type_number(c),
-        Some(KnownType::Enumeration(..) | KnownType::States(..) | KnownType::Structure(..)) => {
-            false
-        }
-        None => false,
+        Some(KnownType::BuiltIn(c)) => b == c,
+        _ => false,
     }
 }
 

@@ -8,12 +8,12 @@ use Rattle.std.proofs.lemmas.List.{length-map, length-take-le, map-append}
 use Rattle.std.specs.List.{list_any}
 use Rattle.std.specs.Option.{option_map, option_or}
 use Rattle.std.specs.Str.{bytes_eq}
-use Rattle.ruby_base.specs.Numbering.{is_name, number_among, with_name}
-use Rattle.slicc_plan.specs.Declarations.{Declaration, first_named, is_named}
+use Rattle.ruby_base.specs.Prelude.{is_name, number_among, with_name}
+use Rattle.slicc_plan.specs.Prelude.{Declaration, first_named, is_named}
 use Rattle.declared_types.specs.declared.lent.Declared.{Declared}
 use Rattle.declared_types.specs.declared.lent.Declared.TheVariants.{Machine, Enumeration, Structure, States, Parameter, Object, OutPort, InPort, Action, Function}
-use Rattle.declared_types.specs.Lent.{declaration_of, declarations_of, text_of, texts_of}
-use Rattle.declared_types.specs.Table.{IsIndexed, with_first}
+use Rattle.declared_types.specs.Lent.{texts_of}
+use Rattle.declared_types.specs.Prelude.{declaration_of, declarations_of, text_of, IsIndexed, with_first}
 
 -- one more name in front
 pub number_among-cons : (name t : List ℕ) (ts : List (List ℕ)) → number_among (t ∷ ts) name ≡ cond (bytes_eq t name) (Some 0) (option_map (λ n. suc n) (number_among ts name))

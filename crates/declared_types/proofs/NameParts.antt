@@ -7,7 +7,7 @@ use Rattle.std.proofs.lemmas.List.{append_cancel_left, append_cancel_right, take
 use Rattle.std.proofs.lemmas.Slice.Eq.{bytes_eq-Decides}
 use Rattle.std.specs.List.{list_any}
 use Rattle.std.specs.Str.{bytes_eq}
-use Rattle.slicc_plan.specs.BuiltIn.{is_among}
+use Rattle.slicc_plan.specs.Prelude.{is_among}
 
 pub different : (xs ys : List ℕ) → bytes_eq xs ys ≡ false → xs ≡ ys → ⊥
 different xs ys fails same = let holds = (bytes_eq-Decides xs ys).1 same in cc

@@ -6,13 +6,11 @@ use Rattle.std.proofs.lemmas.List.{get_or_past, length-map}
 use Rattle.slicc_ast.specs.declared.tree.item.Tree.{Tree}
 use Rattle.slicc_ast.specs.declared.tree.machine.Machine.{Machine}
 use Rattle.std.specs.List.{list_any}
-use Rattle.slicc_plan.specs.BuiltIn.{is_among}
+use Rattle.slicc_plan.specs.Prelude.{is_among, everywhere, within, global_declarations, machine_in, machine_names, machines_of, wide_scopes}
 use Rattle.declared_types.proofs.NameParts.{list_any_map}
-use Rattle.slicc_plan.specs.Declarations.{everywhere, within, global_declarations, machine_in, machine_names, machines_of, wide_scopes}
 use Rattle.declared_types.specs.declared.lent.Declared.{Declared}
 use Rattle.declared_types.specs.declared.table.Table.{Table}
-use Rattle.declared_types.specs.Lent.{declarations_of, scope_of}
-use Rattle.declared_types.specs.Scopes.{AreTables, ScopeTable, is_machine_named, machine_table, scope_at, summaries, summary, table_in}
+use Rattle.declared_types.specs.Prelude.{declarations_of, scope_of, AreTables, ScopeTable, is_machine_named, machine_table, scope_at, summaries, summary, table_in}
 
 pub machine_tables : (trees : List Tree) (ms : List Machine) → map machine_table ms ≡ map (table_in trees) (map within ms)
 machine_tables trees [] = refl

@@ -5,3 +5,4 @@ pub mod Scopes
 pub mod Table
 pub mod Calls
 pub mod Types
+pub mod Prelude

@@ -1,7 +1,7 @@
 -- Sorts of lines.
 use Rattle.std.specs.Prelude.{Bool}
 use Rattle.slicc_ast.specs.declared.tree.declaration.Structure.{Structure}
-use Rattle.slicc_plan.specs.Machines.{is_directory_entry, is_entry, is_tbe}
+use Rattle.slicc_plan.specs.Prelude.{is_directory_entry, is_entry, is_tbe}
 use Rattle.declared_types.specs.declared.lines.LineSort.{LineSort}
 use Rattle.declared_types.specs.declared.lines.LineSort.TheVariants.{Directory, Entry, Tbe}
 

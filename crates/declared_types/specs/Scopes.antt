@@ -4,7 +4,7 @@ use Rattle.std.specs.Str.{bytes_eq}
 use Rattle.std.specs.List.{slice_index_or}
 use Rattle.slicc_ast.specs.declared.tree.item.Tree.{Tree}
 use Rattle.slicc_ast.specs.declared.tree.machine.Machine.{Machine}
-use Rattle.slicc_plan.specs.Declarations.{Declaration, Scope, everywhere, within, declared_in, machine_declarations, wide_scopes}
+use Rattle.slicc_plan.specs.Prelude.{Declaration, Scope, everywhere, within, declared_in, machine_declarations, wide_scopes}
 use Rattle.declared_types.specs.declared.table.Table.{Table}
 use Rattle.declared_types.specs.Lent.{declarations_of, scope_of}
 

@@ -1,7 +1,7 @@
 -- How the first declaration of a name is found.
 use Rattle.std.specs.Prelude.{◌≡◌, ◌++◌, ℕ, cond, option_and_then, List, [], ◌∷◌}
 use Rattle.std.specs.List.{list_any, slice_get}
-use Rattle.ruby_base.specs.Numbering.{is_name, number_among}
+use Rattle.ruby_base.specs.Prelude.{is_name, number_among}
 
 -- The names are numbered, and these are the numbers of their first declarations: each name is found by them as it is among the
 -- names of all declarations.

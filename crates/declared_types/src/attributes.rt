@@ -1,8 +1,7 @@
 //! The attributes of a declaration.
 ghost use Rattle.std.specs.Prelude.{◌≡◌, filter_map, slice_get};
 ghost use Rattle.std.specs.Option.{option_map};
-ghost use Rattle.slicc_plan.specs.Attributes.{attribute_in, first_attribute, has_attribute, is_attribute_word, is_word};
-ghost use Rattle.slicc_plan.specs.Declarations.{is_external};
+ghost use Rattle.slicc_plan.specs.Prelude.{attribute_in, first_attribute, has_attribute, is_attribute_word, is_word, is_external};
 ghost use Rattle.declared_types.specs.Attributes.{attribute_of};
 
 use slicc_ast::tree::{Pair, PairValue, Pairs, Span, Structure};

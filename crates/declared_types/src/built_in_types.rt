@@ -1,8 +1,10 @@
-ghost use Rattle.std.specs.Prelude.{◌≡◌, map, find};
+ghost use Rattle.std.specs.Prelude.{◌≡◌, map, find, []};
 ghost use Rattle.std.specs.Option.{option_map};
 ghost use Rattle.std.specs.Str.{bytes_eq};
-ghost use Rattle.slicc_plan.specs.BuiltIn.{NamedType as NamedRecord, built_in_type, built_in_types, is_same_type, is_table_nature, nature_of, request_fields};
-ghost use Rattle.declared_types.specs.Types.{as_nature, meaning_in, named_of};
+ghost use Rattle.slicc_plan.specs.BuiltIn.{built_in_type};
+ghost use Rattle.slicc_plan.specs.Prelude.{NamedType as NamedRecord, built_in_types, is_same_type, is_table_nature, nature_of, request_fields, is_among, members_of, message_sizes, permissions, request_types, Call as CallRecord, calls};
+ghost use Rattle.declared_types.specs.Types.{as_nature, meaning_in, named_of, texts_of};
+ghost use Rattle.std.specs.List.{list_any};
 
 use slicc_plan::BuiltInType;
 
@@ -13,107 +15,44 @@ pub struct NamedType {
     pub meaning: BuiltInType,
 }
 
-const TYPES: [NamedType; 20] = [
-    NamedType {
-        name: "int",
-        meaning: BuiltInType::Int,
-    },
-    NamedType {
-        name: "Cycles",
-        meaning: BuiltInType::Cycles,
-    },
-    NamedType {
-        name: "Tick",
-        meaning: BuiltInType::Tick,
-    },
-    NamedType {
-        name: "bool",
-        meaning: BuiltInType::Bool,
-    },
-    NamedType {
-        name: "Addr",
-        meaning: BuiltInType::Address,
-    },
-    NamedType {
-        name: "MachineID",
-        meaning: BuiltInType::MachineId,
-    },
-    NamedType {
-        name: "MachineType",
-        meaning: BuiltInType::MachineType,
-    },
-    NamedType {
-        name: "NetDest",
-        meaning: BuiltInType::NetDest,
-    },
-    NamedType {
-        name: "DataBlock",
-        meaning: BuiltInType::DataBlock,
-    },
-    NamedType {
-        name: "AccessPermission",
-        meaning: BuiltInType::AccessPermission,
-    },
-    NamedType {
-        name: "RubyRequestType",
-        meaning: BuiltInType::RequestType,
-    },
-    NamedType {
-        name: "MessageSizeType",
-        meaning: BuiltInType::MessageSize,
-    },
-    NamedType {
-        name: "RubyRequest",
-        meaning: BuiltInType::Request,
-    },
-    NamedType {
-        name: "AbstractCacheEntry",
-        meaning: BuiltInType::AbstractEntry,
-    },
-    NamedType {
-        name: "void",
-        meaning: BuiltInType::Void,
-    },
-    NamedType {
-        name: "CacheMemory",
-        meaning: BuiltInType::Cache,
-    },
-    NamedType {
-        name: "DirectoryMemory",
-        meaning: BuiltInType::Directory,
-    },
-    NamedType {
-        name: "TBETable",
-        meaning: BuiltInType::TbeTable,
-    },
-    NamedType {
-        name: "Sequencer",
-        meaning: BuiltInType::Sequencer,
-    },
-    NamedType {
-        name: "MessageBuffer",
-        meaning: BuiltInType::Buffer,
-    },
-];
+macro_rules! named {
+    ($($name:literal $meaning:ident;)*) => {
+        [$(NamedType {
+            name: $name,
+            meaning: BuiltInType::$meaning,
+        }),*]
+    };
+}
 
-const REQUEST_FIELDS: [NamedType; 4] = [
-    NamedType {
-        name: "LineAddress",
-        meaning: BuiltInType::Address,
-    },
-    NamedType {
-        name: "PhysicalAddress",
-        meaning: BuiltInType::Address,
-    },
-    NamedType {
-        name: "Type",
-        meaning: BuiltInType::RequestType,
-    },
-    NamedType {
-        name: "Size",
-        meaning: BuiltInType::Int,
-    },
-];
+const TYPES: [NamedType; 20] = named! {
+    "int" Int;
+    "Cycles" Cycles;
+    "Tick" Tick;
+    "bool" Bool;
+    "Addr" Address;
+    "MachineID" MachineId;
+    "MachineType" MachineType;
+    "NetDest" NetDest;
+    "DataBlock" DataBlock;
+    "AccessPermission" AccessPermission;
+    "RubyRequestType" RequestType;
+    "MessageSizeType" MessageSize;
+    "RubyRequest" Request;
+    "AbstractCacheEntry" AbstractEntry;
+    "void" Void;
+    "CacheMemory" Cache;
+    "DirectoryMemory" Directory;
+    "TBETable" TbeTable;
+    "Sequencer" Sequencer;
+    "MessageBuffer" Buffer;
+};
+
+const REQUEST_FIELDS: [NamedType; 4] = named! {
+    "LineAddress" Address;
+    "PhysicalAddress" Address;
+    "Type" RequestType;
+    "Size" Int;
+};
 
 // The meaning of a name among these.
 fn meaning_among(types: &[NamedType], text: &[u8]) -> Option<BuiltInType>
@@ -194,4 +133,52 @@ pub fn is_table(b: BuiltInType) -> bool
             | BuiltInType::Sequencer
             | BuiltInType::Buffer
     )
+}
+
+const PERMISSIONS: [&str; 7] = [
+    "Read_Only",
+    "Read_Write",
+    "Invalid",
+    "NotPresent",
+    "Busy",
+    "Maybe_Stale",
+    "Backing_Store",
+];
+
+const REQUEST_TYPES: [&str; 7] = [
+    "LD",
+    "ST",
+    "IFETCH",
+    "ATOMIC",
+    "Load_Linked",
+    "Store_Conditional",
+    "FLUSH",
+];
+
+const MESSAGE_SIZES: [&str; 13] = [
+    "Undefined",
+    "Control",
+    "Data",
+    "Request_Control",
+    "Response_Control",
+    "Response_Data",
+    "Writeback_Control",
+    "Writeback_Data",
+    "Forwarded_Control",
+    "Invalidate_Control",
+    "Unblock_Control",
+    "Multicast_Control",
+    "Broadcast_Control",
+];
+
+/// The members of a built-in enumeration but that of machines, in order; none of another type.
+pub fn fixed_members(b: BuiltInType) -> &'static [&'static str]
+    ensures { texts_of result.now ≡ members_of [] b }
+{
+    match b {
+        BuiltInType::AccessPermission => &PERMISSIONS,
+        BuiltInType::RequestType => &REQUEST_TYPES,
+        BuiltInType::MessageSize => &MESSAGE_SIZES,
+        _ => &[],
+    }
 }

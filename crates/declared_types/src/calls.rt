@@ -1,505 +1,88 @@
 ghost use Rattle.std.specs.Prelude.{◌≡◌, map};
 ghost use Rattle.std.specs.List.{list_any};
 ghost use Rattle.std.specs.Str.{bytes_eq};
-ghost use Rattle.slicc_plan.specs.BuiltInCalls.{Call as CallRecord, calls};
-ghost use Rattle.declared_types.specs.Calls.{call_of};
+ghost use Rattle.slicc_plan.specs.Prelude.{Call as CallRecord, calls};
+ghost use Rattle.declared_types.specs.Prelude.{call_of};
 
 use crate::call::{Allowed, Answer, Argument, Call, Change, Receiver};
 use slicc_plan::BuiltInType;
 
-const CALLS: [Call; 52] = [
-    Call {
-        receiver: Receiver::InPort,
-        name: "isReady",
-        always: &[Argument::ValueOf(BuiltInType::Tick)],
-        perhaps: &[],
-        answer: Answer::Value(BuiltInType::Bool),
-        change: Change::Nothing,
-        allowed: Allowed::Anywhere,
-    },
-    Call {
-        receiver: Receiver::InPort,
-        name: "dequeue",
-        always: &[Argument::ValueOf(BuiltInType::Tick)],
-        perhaps: &[],
-        answer: Answer::Nothing,
-        change: Change::Nothing,
-        allowed: Allowed::InActions,
-    },
-    Call {
-        receiver: Receiver::InPort,
-        name: "recycle",
-        always: &[Argument::ValueOf(BuiltInType::Tick)],
-        perhaps: &[Argument::ValueOf(BuiltInType::Tick)],
-        answer: Answer::Nothing,
-        change: Change::Nothing,
-        allowed: Allowed::InActions,
-    },
-    Call {
-        receiver: Receiver::Cache,
-        name: "lookup",
-        always: &[Argument::ValueOf(BuiltInType::Address)],
-        perhaps: &[],
-        answer: Answer::Line,
-        change: Change::Nothing,
-        allowed: Allowed::Anywhere,
-    },
-    Call {
-        receiver: Receiver::Cache,
-        name: "[]",
-        always: &[Argument::ValueOf(BuiltInType::Address)],
-        perhaps: &[],
-        answer: Answer::Line,
-        change: Change::Nothing,
-        allowed: Allowed::Anywhere,
-    },
-    Call {
-        receiver: Receiver::Cache,
-        name: "isTagPresent",
-        always: &[Argument::ValueOf(BuiltInType::Address)],
-        perhaps: &[],
-        answer: Answer::Value(BuiltInType::Bool),
-        change: Change::Nothing,
-        allowed: Allowed::Anywhere,
-    },
-    Call {
-        receiver: Receiver::Cache,
-        name: "cacheAvail",
-        always: &[Argument::ValueOf(BuiltInType::Address)],
-        perhaps: &[],
-        answer: Answer::Value(BuiltInType::Bool),
-        change: Change::Nothing,
-        allowed: Allowed::Anywhere,
-    },
-    Call {
-        receiver: Receiver::Cache,
-        name: "cacheProbe",
-        always: &[Argument::ValueOf(BuiltInType::Address)],
-        perhaps: &[],
-        answer: Answer::Value(BuiltInType::Address),
-        change: Change::Nothing,
-        allowed: Allowed::Anywhere,
-    },
-    Call {
-        receiver: Receiver::Cache,
-        name: "allocate",
-        always: &[Argument::ValueOf(BuiltInType::Address), Argument::NewLine],
-        perhaps: &[],
-        answer: Answer::Line,
-        change: Change::Lines,
-        allowed: Allowed::Anywhere,
-    },
-    Call {
-        receiver: Receiver::Cache,
-        name: "deallocate",
-        always: &[Argument::ValueOf(BuiltInType::Address)],
-        perhaps: &[],
-        answer: Answer::Nothing,
-        change: Change::Lines,
-        allowed: Allowed::Anywhere,
-    },
-    Call {
-        receiver: Receiver::Cache,
-        name: "setMRU",
-        always: &[Argument::AddressOrLine],
-        perhaps: &[],
-        answer: Answer::Nothing,
-        change: Change::Lines,
-        allowed: Allowed::Anywhere,
-    },
-    Call {
-        receiver: Receiver::Directory,
-        name: "lookup",
-        always: &[Argument::ValueOf(BuiltInType::Address)],
-        perhaps: &[],
-        answer: Answer::Line,
-        change: Change::Nothing,
-        allowed: Allowed::Anywhere,
-    },
-    Call {
-        receiver: Receiver::Directory,
-        name: "[]",
-        always: &[Argument::ValueOf(BuiltInType::Address)],
-        perhaps: &[],
-        answer: Answer::Line,
-        change: Change::Nothing,
-        allowed: Allowed::Anywhere,
-    },
-    Call {
-        receiver: Receiver::Directory,
-        name: "isPresent",
-        always: &[Argument::ValueOf(BuiltInType::Address)],
-        perhaps: &[],
-        answer: Answer::Value(BuiltInType::Bool),
-        change: Change::Nothing,
-        allowed: Allowed::Anywhere,
-    },
-    Call {
-        receiver: Receiver::Directory,
-        name: "allocate",
-        always: &[Argument::ValueOf(BuiltInType::Address), Argument::NewLine],
-        perhaps: &[],
-        answer: Answer::Line,
-        change: Change::Nothing,
-        allowed: Allowed::Anywhere,
-    },
-    Call {
-        receiver: Receiver::TbeTable,
-        name: "lookup",
-        always: &[Argument::ValueOf(BuiltInType::Address)],
-        perhaps: &[],
-        answer: Answer::Line,
-        change: Change::Nothing,
-        allowed: Allowed::Anywhere,
-    },
-    Call {
-        receiver: Receiver::TbeTable,
-        name: "[]",
-        always: &[Argument::ValueOf(BuiltInType::Address)],
-        perhaps: &[],
-        answer: Answer::Line,
-        change: Change::Nothing,
-        allowed: Allowed::Anywhere,
-    },
-    Call {
-        receiver: Receiver::TbeTable,
-        name: "allocate",
-        always: &[Argument::ValueOf(BuiltInType::Address)],
-        perhaps: &[],
-        answer: Answer::Nothing,
-        change: Change::Lines,
-        allowed: Allowed::Anywhere,
-    },
-    Call {
-        receiver: Receiver::TbeTable,
-        name: "deallocate",
-        always: &[Argument::ValueOf(BuiltInType::Address)],
-        perhaps: &[],
-        answer: Answer::Nothing,
-        change: Change::Lines,
-        allowed: Allowed::Anywhere,
-    },
-    Call {
-        receiver: Receiver::TbeTable,
-        name: "isPresent",
-        always: &[Argument::ValueOf(BuiltInType::Address)],
-        perhaps: &[],
-        answer: Answer::Value(BuiltInType::Bool),
-        change: Change::Nothing,
-        allowed: Allowed::Anywhere,
-    },
-    Call {
-        receiver: Receiver::NetDest,
-        name: "add",
-        always: &[Argument::ValueOf(BuiltInType::MachineId)],
-        perhaps: &[],
-        answer: Answer::Nothing,
-        change: Change::Receiver,
-        allowed: Allowed::Anywhere,
-    },
-    Call {
-        receiver: Receiver::NetDest,
-        name: "remove",
-        always: &[Argument::ValueOf(BuiltInType::MachineId)],
-        perhaps: &[],
-        answer: Answer::Nothing,
-        change: Change::Receiver,
-        allowed: Allowed::Anywhere,
-    },
-    Call {
-        receiver: Receiver::NetDest,
-        name: "clear",
-        always: &[],
-        perhaps: &[],
-        answer: Answer::Nothing,
-        change: Change::Receiver,
-        allowed: Allowed::Anywhere,
-    },
-    Call {
-        receiver: Receiver::NetDest,
-        name: "count",
-        always: &[],
-        perhaps: &[],
-        answer: Answer::Value(BuiltInType::Int),
-        change: Change::Nothing,
-        allowed: Allowed::Anywhere,
-    },
-    Call {
-        receiver: Receiver::NetDest,
-        name: "isElement",
-        always: &[Argument::ValueOf(BuiltInType::MachineId)],
-        perhaps: &[],
-        answer: Answer::Value(BuiltInType::Bool),
-        change: Change::Nothing,
-        allowed: Allowed::Anywhere,
-    },
-    Call {
-        receiver: Receiver::NetDest,
-        name: "isEmpty",
-        always: &[],
-        perhaps: &[],
-        answer: Answer::Value(BuiltInType::Bool),
-        change: Change::Nothing,
-        allowed: Allowed::Anywhere,
-    },
-    Call {
-        receiver: Receiver::NetDest,
-        name: "addNetDest",
-        always: &[Argument::ValueOf(BuiltInType::NetDest)],
-        perhaps: &[],
-        answer: Answer::Nothing,
-        change: Change::Receiver,
-        allowed: Allowed::Anywhere,
-    },
-    Call {
-        receiver: Receiver::NetDest,
-        name: "removeNetDest",
-        always: &[Argument::ValueOf(BuiltInType::NetDest)],
-        perhaps: &[],
-        answer: Answer::Nothing,
-        change: Change::Receiver,
-        allowed: Allowed::Anywhere,
-    },
-    Call {
-        receiver: Receiver::NetDest,
-        name: "broadcast",
-        always: &[Argument::ValueOf(BuiltInType::MachineType)],
-        perhaps: &[],
-        answer: Answer::Nothing,
-        change: Change::Receiver,
-        allowed: Allowed::Anywhere,
-    },
-    Call {
-        receiver: Receiver::DataBlock,
-        name: "clear",
-        always: &[],
-        perhaps: &[],
-        answer: Answer::Nothing,
-        change: Change::Receiver,
-        allowed: Allowed::Anywhere,
-    },
-    Call {
-        receiver: Receiver::Sequencer,
-        name: "readCallback",
-        always: &[
-            Argument::ValueOf(BuiltInType::Address),
-            Argument::ValueOf(BuiltInType::DataBlock),
-        ],
-        perhaps: &[
-            Argument::ValueOf(BuiltInType::Bool),
-            Argument::ValueOf(BuiltInType::MachineType),
-        ],
-        answer: Answer::Nothing,
-        change: Change::Nothing,
-        allowed: Allowed::InActions,
-    },
-    Call {
-        receiver: Receiver::Sequencer,
-        name: "writeCallback",
-        always: &[
-            Argument::ValueOf(BuiltInType::Address),
-            Argument::ValueOf(BuiltInType::DataBlock),
-        ],
-        perhaps: &[
-            Argument::ValueOf(BuiltInType::Bool),
-            Argument::ValueOf(BuiltInType::MachineType),
-        ],
-        answer: Answer::Nothing,
-        change: Change::Block,
-        allowed: Allowed::InActions,
-    },
-    Call {
-        receiver: Receiver::Nothing,
-        name: "clockEdge",
-        always: &[],
-        perhaps: &[],
-        answer: Answer::Value(BuiltInType::Tick),
-        change: Change::Nothing,
-        allowed: Allowed::Anywhere,
-    },
-    Call {
-        receiver: Receiver::Nothing,
-        name: "curCycle",
-        always: &[],
-        perhaps: &[],
-        answer: Answer::Value(BuiltInType::Cycles),
-        change: Change::Nothing,
-        allowed: Allowed::Anywhere,
-    },
-    Call {
-        receiver: Receiver::Nothing,
-        name: "cyclesToTicks",
-        always: &[Argument::ValueOf(BuiltInType::Int)],
-        perhaps: &[],
-        answer: Answer::Value(BuiltInType::Tick),
-        change: Change::Nothing,
-        allowed: Allowed::Anywhere,
-    },
-    Call {
-        receiver: Receiver::Nothing,
-        name: "ticksToCycles",
-        always: &[Argument::ValueOf(BuiltInType::Int)],
-        perhaps: &[],
-        answer: Answer::Value(BuiltInType::Cycles),
-        change: Change::Nothing,
-        allowed: Allowed::Anywhere,
-    },
-    Call {
-        receiver: Receiver::Nothing,
-        name: "mapAddressToMachine",
-        always: &[
-            Argument::ValueOf(BuiltInType::Address),
-            Argument::ValueOf(BuiltInType::MachineType),
-        ],
-        perhaps: &[],
-        answer: Answer::Value(BuiltInType::MachineId),
-        change: Change::Nothing,
-        allowed: Allowed::Anywhere,
-    },
-    Call {
-        receiver: Receiver::Nothing,
-        name: "makeLineAddress",
-        always: &[Argument::ValueOf(BuiltInType::Address)],
-        perhaps: &[],
-        answer: Answer::Value(BuiltInType::Address),
-        change: Change::Nothing,
-        allowed: Allowed::Anywhere,
-    },
-    Call {
-        receiver: Receiver::Nothing,
-        name: "machineIDToNodeID",
-        always: &[Argument::ValueOf(BuiltInType::MachineId)],
-        perhaps: &[],
-        answer: Answer::Value(BuiltInType::Int),
-        change: Change::Nothing,
-        allowed: Allowed::Anywhere,
-    },
-    Call {
-        receiver: Receiver::Nothing,
-        name: "machineIDToMachineType",
-        always: &[Argument::ValueOf(BuiltInType::MachineId)],
-        perhaps: &[],
-        answer: Answer::Value(BuiltInType::MachineType),
-        change: Change::Nothing,
-        allowed: Allowed::Anywhere,
-    },
-    Call {
-        receiver: Receiver::Nothing,
-        name: "set_cache_entry",
-        always: &[Argument::CacheLine],
-        perhaps: &[],
-        answer: Answer::Nothing,
-        change: Change::Lines,
-        allowed: Allowed::InActions,
-    },
-    Call {
-        receiver: Receiver::Nothing,
-        name: "unset_cache_entry",
-        always: &[],
-        perhaps: &[],
-        answer: Answer::Nothing,
-        change: Change::Lines,
-        allowed: Allowed::InActions,
-    },
-    Call {
-        receiver: Receiver::Nothing,
-        name: "set_tbe",
-        always: &[Argument::TbeLine],
-        perhaps: &[],
-        answer: Answer::Nothing,
-        change: Change::Lines,
-        allowed: Allowed::InActions,
-    },
-    Call {
-        receiver: Receiver::Nothing,
-        name: "unset_tbe",
-        always: &[],
-        perhaps: &[],
-        answer: Answer::Nothing,
-        change: Change::Lines,
-        allowed: Allowed::InActions,
-    },
-    Call {
-        receiver: Receiver::Nothing,
-        name: "wakeUpBuffers",
-        always: &[Argument::ValueOf(BuiltInType::Address)],
-        perhaps: &[],
-        answer: Answer::Nothing,
-        change: Change::Nothing,
-        allowed: Allowed::InActions,
-    },
-    Call {
-        receiver: Receiver::Nothing,
-        name: "wakeUpAllBuffers",
-        always: &[],
-        perhaps: &[],
-        answer: Answer::Nothing,
-        change: Change::Nothing,
-        allowed: Allowed::InActions,
-    },
-    Call {
-        receiver: Receiver::Nothing,
-        name: "trigger",
-        always: &[
-            Argument::Event,
-            Argument::ValueOf(BuiltInType::Address),
-            Argument::OwnCacheLine,
-            Argument::OwnTbeLine,
-        ],
-        perhaps: &[],
-        answer: Answer::Nothing,
-        change: Change::Nothing,
-        allowed: Allowed::InPorts,
-    },
-    Call {
-        receiver: Receiver::Nothing,
-        name: "profileMsgDelay",
-        always: &[
-            Argument::ValueOf(BuiltInType::Int),
-            Argument::ValueOf(BuiltInType::Cycles),
-        ],
-        perhaps: &[],
-        answer: Answer::Nothing,
-        change: Change::Nothing,
-        allowed: Allowed::Anywhere,
-    },
-    Call {
-        receiver: Receiver::Entry,
-        name: "changePermission",
-        always: &[Argument::ValueOf(BuiltInType::AccessPermission)],
-        perhaps: &[],
-        answer: Answer::Nothing,
-        change: Change::Nothing,
-        allowed: Allowed::Anywhere,
-    },
-    Call {
-        receiver: Receiver::Sequencer,
-        name: "evictionCallback",
-        always: &[Argument::ValueOf(BuiltInType::Address)],
-        perhaps: &[],
-        answer: Answer::Nothing,
-        change: Change::Nothing,
-        allowed: Allowed::InActions,
-    },
-    Call {
-        receiver: Receiver::Cache,
-        name: "profileDemandHit",
-        always: &[],
-        perhaps: &[],
-        answer: Answer::Nothing,
-        change: Change::Nothing,
-        allowed: Allowed::Anywhere,
-    },
-    Call {
-        receiver: Receiver::Cache,
-        name: "profileDemandMiss",
-        always: &[],
-        perhaps: &[],
-        answer: Answer::Nothing,
-        change: Change::Nothing,
-        allowed: Allowed::Anywhere,
-    },
-];
+// The calls of these rows: what each is called on, its name, the arguments that there always are and those that may follow, what
+// it answers, what it changes and where it is allowed.
+macro_rules! calls {
+    ($($on:ident $name:literal
+        [$($always:ident $(($always_of:ident))?),*] [$($perhaps:ident $(($perhaps_of:ident))?),*]
+        -> $answer:ident $(($answer_of:ident))?, $change:ident, $allowed:ident;)*) => {
+        [$(Call {
+            receiver: Receiver::$on,
+            name: $name,
+            always: &[$(Argument::$always $((BuiltInType::$always_of))?),*],
+            perhaps: &[$(Argument::$perhaps $((BuiltInType::$perhaps_of))?),*],
+            answer: Answer::$answer $((BuiltInType::$answer_of))?,
+            change: Change::$change,
+            allowed: Allowed::$allowed,
+        }),*]
+    };
+}
+
+const CALLS: [Call; 52] = calls! {
+    InPort "isReady" [ValueOf(Tick)] [] -> Value(Bool), Nothing, Anywhere;
+    InPort "dequeue" [ValueOf(Tick)] [] -> Nothing, Nothing, InActions;
+    InPort "recycle" [ValueOf(Tick)] [ValueOf(Tick)] -> Nothing, Nothing, InActions;
+    Cache "lookup" [ValueOf(Address)] [] -> Line, Nothing, Anywhere;
+    Cache "[]" [ValueOf(Address)] [] -> Line, Nothing, Anywhere;
+    Cache "isTagPresent" [ValueOf(Address)] [] -> Value(Bool), Nothing, Anywhere;
+    Cache "cacheAvail" [ValueOf(Address)] [] -> Value(Bool), Nothing, Anywhere;
+    Cache "cacheProbe" [ValueOf(Address)] [] -> Value(Address), Nothing, Anywhere;
+    Cache "allocate" [ValueOf(Address), NewLine] [] -> Line, Lines, Anywhere;
+    Cache "deallocate" [ValueOf(Address)] [] -> Nothing, Lines, Anywhere;
+    Cache "setMRU" [AddressOrLine] [] -> Nothing, Lines, Anywhere;
+    Directory "lookup" [ValueOf(Address)] [] -> Line, Nothing, Anywhere;
+    Directory "[]" [ValueOf(Address)] [] -> Line, Nothing, Anywhere;
+    Directory "isPresent" [ValueOf(Address)] [] -> Value(Bool), Nothing, Anywhere;
+    Directory "allocate" [ValueOf(Address), NewLine] [] -> Line, Nothing, Anywhere;
+    TbeTable "lookup" [ValueOf(Address)] [] -> Line, Nothing, Anywhere;
+    TbeTable "[]" [ValueOf(Address)] [] -> Line, Nothing, Anywhere;
+    TbeTable "allocate" [ValueOf(Address)] [] -> Nothing, Lines, Anywhere;
+    TbeTable "deallocate" [ValueOf(Address)] [] -> Nothing, Lines, Anywhere;
+    TbeTable "isPresent" [ValueOf(Address)] [] -> Value(Bool), Nothing, Anywhere;
+    NetDest "add" [ValueOf(MachineId)] [] -> Nothing, Receiver, Anywhere;
+    NetDest "remove" [ValueOf(MachineId)] [] -> Nothing, Receiver, Anywhere;
+    NetDest "clear" [] [] -> Nothing, Receiver, Anywhere;
+    NetDest "count" [] [] -> Value(Int), Nothing, Anywhere;
+    NetDest "isElement" [ValueOf(MachineId)] [] -> Value(Bool), Nothing, Anywhere;
+    NetDest "isEmpty" [] [] -> Value(Bool), Nothing, Anywhere;
+    NetDest "addNetDest" [ValueOf(NetDest)] [] -> Nothing, Receiver, Anywhere;
+    NetDest "removeNetDest" [ValueOf(NetDest)] [] -> Nothing, Receiver, Anywhere;
+    NetDest "broadcast" [ValueOf(MachineType)] [] -> Nothing, Receiver, Anywhere;
+    DataBlock "clear" [] [] -> Nothing, Receiver, Anywhere;
+    Sequencer "readCallback" [ValueOf(Address), ValueOf(DataBlock)]
+        [ValueOf(Bool), ValueOf(MachineType)] -> Nothing, Nothing, InActions;
+    Sequencer "writeCallback" [ValueOf(Address), ValueOf(DataBlock)]
+        [ValueOf(Bool), ValueOf(MachineType)] -> Nothing, Block, InActions;
+    Nothing "clockEdge" [] [] -> Value(Tick), Nothing, Anywhere;
+    Nothing "curCycle" [] [] -> Value(Cycles), Nothing, Anywhere;
+    Nothing "cyclesToTicks" [ValueOf(Int)] [] -> Value(Tick), Nothing, Anywhere;
+    Nothing "ticksToCycles" [ValueOf(Int)] [] -> Value(Cycles), Nothing, Anywhere;
+    Nothing "mapAddressToMachine" [ValueOf(Address), ValueOf(MachineType)]
+        [] -> Value(MachineId), Nothing, Anywhere;
+    Nothing "makeLineAddress" [ValueOf(Address)] [] -> Value(Address), Nothing, Anywhere;
+    Nothing "machineIDToNodeID" [ValueOf(MachineId)] [] -> Value(Int), Nothing, Anywhere;
+    Nothing "machineIDToMachineType" [ValueOf(MachineId)] [] -> Value(MachineType), Nothing, Anywhere;
+    Nothing "set_cache_entry" [CacheLine] [] -> Nothing, Lines, InActions;
+    Nothing "unset_cache_entry" [] [] -> Nothing, Lines, InActions;
+    Nothing "set_tbe" [TbeLine] [] -> Nothing, Lines, InActions;
+    Nothing "unset_tbe" [] [] -> Nothing, Lines, InActions;
+    Nothing "wakeUpBuffers" [ValueOf(Address)] [] -> Nothing, Nothing, InActions;
+    Nothing "wakeUpAllBuffers" [] [] -> Nothing, Nothing, InActions;
+    Nothing "trigger" [Event, ValueOf(Address), OwnCacheLine, OwnTbeLine]
+        [] -> Nothing, Nothing, InPorts;
+    Nothing "profileMsgDelay" [ValueOf(Int), ValueOf(Cycles)] [] -> Nothing, Nothing, Anywhere;
+    Entry "changePermission" [ValueOf(AccessPermission)] [] -> Nothing, Nothing, Anywhere;
+    Sequencer "evictionCallback" [ValueOf(Address)] [] -> Nothing, Nothing, InActions;
+    Cache "profileDemandHit" [] [] -> Nothing, Nothing, Anywhere;
+    Cache "profileDemandMiss" [] [] -> Nothing, Nothing, Anywhere;
+};
 
 /// The calls, in the order by which they are numbered.
 pub fn built_in_calls() -> &'static [Call]

@@ -6,10 +6,11 @@ mod attributes;
 mod built_in_types;
 mod call;
 mod calls;
+mod declarations;
 mod lent;
 mod lines;
 mod lists;
-mod members;
+mod names;
 mod scopes;
 mod table;
 mod tables;
@@ -19,13 +20,16 @@ mod words;
 pub use attributes::{
     Attribute, attribute_in, first_attribute, has_attribute, is_external, is_word,
 };
-pub use built_in_types::{NamedType, Nature, built_in_type, is_table, nature_of, request_fields};
+pub use built_in_types::{
+    NamedType, Nature, built_in_type, fixed_members, is_table, nature_of, request_fields,
+};
 pub use call::{Allowed, Answer, Argument, Call, Change, Receiver};
 pub use calls::{built_in_calls, is_call_name};
+pub use declarations::{first_named, type_in};
 pub use lent::{Declared, KnownType, Scope};
 pub use lines::{LineSort, first_line};
 pub use lists::{declared, machine_list};
-pub use members::fixed_members;
+pub use names::Named;
 pub use scopes::Scopes;
 pub use table::name_of;
 pub use types::{declared_type, table_named};

@@ -1,7 +1,7 @@
 //! The structures of the lines of a machine's tables.
 ghost use Rattle.std.specs.Prelude.{◌≡◌, cond, find, flat_map};
 ghost use Rattle.std.specs.Option.{option_copied};
-ghost use Rattle.slicc_plan.specs.Machines.{is_beside_main, is_directory_entry, is_entry, is_tbe, structure_in};
+ghost use Rattle.slicc_plan.specs.Prelude.{is_beside_main, is_directory_entry, is_entry, is_tbe, structure_in};
 ghost use Rattle.declared_types.specs.Lent.{declaration_of, declarations_of};
 ghost use Rattle.declared_types.specs.LineSorts.{is_of_sort};
 

@@ -2,8 +2,8 @@
 ghost use Rattle.std.specs.Prelude.{◌≡◌, ◌++◌, [], IfOk, OnOk, map, flat_map};
 ghost use Rattle.std.specs.Option.{option_map};
 ghost use Rattle.slicc_plan.specs.Buffers.{listed};
-ghost use Rattle.slicc_plan.specs.Declarations.{global_declarations, item_declarations, machine_declarations, named_declarations, parameter};
-ghost use Rattle.declared_types.specs.Lent.{declaration_of, declarations_of};
+ghost use Rattle.slicc_plan.specs.Prelude.{global_declarations, item_declarations, machine_declarations, named_declarations, parameter};
+ghost use Rattle.declared_types.specs.Prelude.{declaration_of, declarations_of};
 
 use crate::lent::Declared;
 use ruby_base::{NoMemory, Seq};

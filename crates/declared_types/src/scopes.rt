@@ -32,10 +32,7 @@ pub struct Scopes<'a> {
 impl<'a> Scopes<'a> {
     ghost use Rattle.std.specs.Prelude.{length, IfOk};
     ghost use Rattle.std.specs.Option.{option_map};
-    ghost use Rattle.slicc_plan.specs.Declarations.{declared_in, first_named, machine_names, wide_scopes};
-    ghost use Rattle.slicc_plan.specs.Types.{global_type, type_in};
-    ghost use Rattle.slicc_plan.specs.BuiltIn.{is_among};
-    ghost use Rattle.slicc_plan.specs.BuiltInCalls.{permission_call};
+    ghost use Rattle.slicc_plan.specs.Prelude.{declared_in, first_named, machine_names, wide_scopes, global_type, type_in, is_among, permission_call};
     ghost use Rattle.std.specs.List.{list_any};
     ghost use Rattle.std.specs.Str.{bytes_eq};
     ghost use Rattle.declared_types.specs.Lent.{declaration_of, declarations_of, scope_of, type_of};

@@ -1,8 +1,8 @@
 //! The declarations of a scope with an index from their names.
 ghost use Rattle.std.specs.Prelude.{◌≡◌, [], length, IfOk, OnOk, Some};
 ghost use Rattle.std.specs.Option.{option_map};
-ghost use Rattle.ruby_base.specs.Numbering.{number_among, with_name};
-ghost use Rattle.slicc_plan.specs.Declarations.{first_named, function_name, name_of};
+ghost use Rattle.ruby_base.specs.Prelude.{number_among, with_name};
+ghost use Rattle.slicc_plan.specs.Prelude.{first_named, function_name, name_of};
 ghost use Rattle.declared_types.specs.Lent.{declaration_of, declarations_of, scope_of, text_of, texts_of};
 ghost use Rattle.declared_types.specs.Table.{IsIndexed, with_first};
 

@@ -1,9 +1,8 @@
 //! The tables of all scopes.
 ghost use Rattle.std.specs.Prelude.{◌≡◌, ◌++◌, [], ◌∷◌, IfOk, OnOk, flat_map, map};
 ghost use Rattle.std.specs.List.{list_any};
-ghost use Rattle.slicc_plan.specs.Declarations.{global_declarations, machine_in, within};
-ghost use Rattle.declared_types.specs.Lent.{declaration_of, declarations_of, scope_of};
-ghost use Rattle.declared_types.specs.Scopes.{AreTables, ScopeTable, is_machine_named, machine_table, summaries};
+ghost use Rattle.slicc_plan.specs.Prelude.{global_declarations, machine_in, within};
+ghost use Rattle.declared_types.specs.Prelude.{declaration_of, declarations_of, scope_of, AreTables, ScopeTable, is_machine_named, machine_table, summaries};
 
 use crate::lent::{Declared, Scope};
 use crate::lists::{global_list, machine_list};

@@ -1,9 +1,8 @@
 //! What a declaration declares as a type.
 ghost use Rattle.std.specs.Prelude.{◌≡◌, true};
 ghost use Rattle.std.specs.Option.{option_map};
-ghost use Rattle.slicc_plan.specs.Types.{declared_type, structure_type, table_named};
-ghost use Rattle.slicc_plan.specs.Declarations.{is_external};
-ghost use Rattle.declared_types.specs.Lent.{declaration_of, scope_of, type_of};
+ghost use Rattle.slicc_plan.specs.Prelude.{declared_type, structure_type, table_named, is_external};
+ghost use Rattle.declared_types.specs.Prelude.{declaration_of, scope_of, type_of};
 
 use crate::attributes::is_external;
 use crate::lent::{Declared, KnownType, Scope};

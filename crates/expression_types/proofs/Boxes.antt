@@ -10,12 +10,9 @@ use Rattle.slicc_ast.specs.declared.tree.expression.Suffix.{Suffix}
 use Rattle.slicc_ast.specs.declared.tree.expression.Expr.TheViews as views
 use Rattle.slicc_ast.specs.declared.tree.expression.Expr.TheViews.{the_lemmas}
 use Rattle.slicc_ast.proofs.Boxes.{Operation_is, Postfix_is, Not_is, Negate_is, IsValid_is, IsInvalid_is, Cast_is, Group_is}
-use Rattle.slicc_plan.specs.declared.built_in.BuiltInType.TheVariants.{Int, Bool as Boolean}
-use Rattle.slicc_plan.specs.CallTypes.{named_call}
-use Rattle.slicc_plan.specs.Environment.{Environment, type_named}
-use Rattle.slicc_plan.specs.ExpressionTypes.{cast_to, from_operand, given_at, span_of, typed}
-use Rattle.slicc_plan.specs.Meanings.{any_line, of_built_in}
-use Rattle.expression_types.specs.Lists.{all_arguments, all_operands, all_suffixes}
+use Rattle.slicc_plan.specs.declared.built_in.BuiltInType.TheVariants.{Int, Bool}
+use Rattle.slicc_plan.specs.Prelude.{named_call, Environment, type_named, cast_to, from_operand, given_at, span_of, typed, any_line, of_built_in}
+use Rattle.expression_types.specs.Prelude.{all_arguments, all_operands, all_suffixes}
 use Rattle.expression_types.proofs.Rows.{arguments_of_row, operands_of_row, suffixes_of_row}
 
 pub span_of_Operation : (e : Expr) (others : List Operand) (span : Span) → span_of (views.Operation e others span) ≡ span
@@ -48,7 +45,7 @@ pub typed_of_Operation : (env : Environment) (e : Expr) (others : List Operand) 
 typed_of_Operation env e others span =
     ap (typed env) (Operation_is e others span) ∙ search (rules, the_lemmas, operands_of_row env)
 
-pub typed_of_Not : (env : Environment) (e : Expr) (span : Span) → typed env (views.Not e span) ≡ from_operand env (of_built_in Boolean) Boolean (given_at (span_of e) (typed env e))
+pub typed_of_Not : (env : Environment) (e : Expr) (span : Span) → typed env (views.Not e span) ≡ from_operand env (of_built_in Bool) Bool (given_at (span_of e) (typed env e))
 typed_of_Not env e span = ap (typed env) (Not_is e span)
 
 pub typed_of_Negate : (env : Environment) (e : Expr) (span : Span) → typed env (views.Negate e span) ≡ from_operand env (of_built_in Int) Int (given_at (span_of e) (typed env e))
@@ -61,10 +58,10 @@ typed_of_Postfix env e suffixes span =
 pub typed_of_Call : (env : Environment) (n : Name) (arguments : Args) (span : Span) → typed env (views.Call n arguments span) ≡ named_call env span n (all_arguments env arguments.items)
 typed_of_Call env n arguments span = search (rules, the_lemmas, arguments_of_row env)
 
-pub typed_of_IsValid : (env : Environment) (e : Expr) (span : Span) → typed env (views.IsValid e span) ≡ from_operand env any_line Boolean (given_at (span_of e) (typed env e))
+pub typed_of_IsValid : (env : Environment) (e : Expr) (span : Span) → typed env (views.IsValid e span) ≡ from_operand env any_line Bool (given_at (span_of e) (typed env e))
 typed_of_IsValid env e span = ap (typed env) (IsValid_is e span)
 
-pub typed_of_IsInvalid : (env : Environment) (e : Expr) (span : Span) → typed env (views.IsInvalid e span) ≡ from_operand env any_line Boolean (given_at (span_of e) (typed env e))
+pub typed_of_IsInvalid : (env : Environment) (e : Expr) (span : Span) → typed env (views.IsInvalid e span) ≡ from_operand env any_line Bool (given_at (span_of e) (typed env e))
 typed_of_IsInvalid env e span = ap (typed env) (IsInvalid_is e span)
 
 pub typed_of_Cast : (env : Environment) (target : TypeName) (mode : Option (List ℕ)) (e : Expr) (span : Span) → typed env (views.Cast target mode e span) ≡ cast_to env target (given_at (span_of e) (typed env e)) (type_named env target.text)

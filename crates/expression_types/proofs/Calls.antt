@@ -10,15 +10,11 @@ use Rattle.slicc_ast.specs.declared.tree.declaration.Function.TheVariants.{Plain
 use Rattle.slicc_plan.specs.declared.broken.Broken.{Broken}
 use Rattle.slicc_plan.specs.declared.broken.Rule.TheVariants.{NotAllowedHere, NotThere, WrongCount, WrongType}
 use Rattle.slicc_plan.specs.Buffers.{listed}
-use Rattle.slicc_plan.specs.BuiltInCalls.{Call, Change, no_change, of_receiver, of_block, of_lines}
-use Rattle.slicc_plan.specs.CallTypes.{Given, Typed, answer_of, broken_in, built_in_call, built_in_named, call_named, call_unless, declared_call, formal_wanted, found_index, found_method, function_call, index_call, is_told, method_call, named_call, no_field, not_called, plain, plain_call, wanted_by, wrong_argument, wrong_arguments, wrong_change, wrong_count, wrong_line_type, wrong_new_line}
-use Rattle.slicc_plan.specs.Declarations.{Declaration, machine, enumeration, structure, states, parameter, object, out_port as out_port_declaration, in_port as in_port_declaration, action, function, symbol, state, member, formal, local, first_named, machine_declarations, within}
-use Rattle.slicc_plan.specs.Environment.{Bound, Environment, is_allowed, type_named, value_named}
-use Rattle.slicc_plan.specs.Meanings.{Meaning, value, no_line, bare_line, new_line, incoming, outgoing, table, in_port, out_port, nothing, unknown, Wanted, anything, any_value, one_of, any_line, only_no_line, comparable, new_line_of, address_or_line_of, table_of, any_in_port, any_out_port, answer_of_type, told, unfit, unless}
-use Rattle.slicc_plan.specs.Order.{first_of}
-use Rattle.slicc_plan.specs.Types.{KnownType, type_in}
-use Rattle.body_types.specs.Found.{found_of}
-use Rattle.expression_types.specs.Known.{all_known, known, known_given}
+use Rattle.slicc_plan.specs.Prelude.{Call, Change, no_change, of_receiver, of_block, of_lines, Given, Typed, answer_of, broken_in, built_in_call, built_in_named, call_named, call_unless, declared_call, formal_wanted, found_index, found_method, function_call, index_call, is_told, method_call, named_call, no_field, not_called, plain, plain_call, wanted_by, wrong_argument, wrong_arguments, wrong_change, wrong_count, wrong_line_type, wrong_new_line, Declaration, machine, states, parameter, object, action, function, symbol, state, member, formal, local, first_named, machine_declarations, within, Bound, Environment, is_allowed, type_named, value_named, Meaning, value, no_line, bare_line, incoming, outgoing, unknown, anything, any_value, one_of, any_line, only_no_line, comparable, new_line_of, address_or_line_of, table_of, any_in_port, any_out_port, answer_of_type, told, unfit, unless, first_of, KnownType, type_in}
+use Rattle.slicc_plan.specs.Declarations.{enumeration, structure, out_port as out_port_declaration, in_port as in_port_declaration}
+use Rattle.slicc_plan.specs.Meanings.{new_line, table, in_port, out_port, nothing, Wanted}
+use Rattle.body_types.specs.Prelude.{found_of}
+use Rattle.expression_types.specs.Prelude.{all_known, known, known_given}
 use Rattle.expression_types.proofs.Known.{SameFirst, back_same, both_same, first_known, front_known, front_same, plain_same, unchanged}
 
 pub broken_in_known : (gs : List Given) → SameFirst (broken_in gs) (broken_in (all_known gs))

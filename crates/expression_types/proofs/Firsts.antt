@@ -7,15 +7,12 @@ use Rattle.slicc_plan.specs.declared.broken.Broken.{Broken}
 use Rattle.slicc_plan.specs.declared.built_in.BuiltInType.{BuiltInType}
 use Rattle.slicc_plan.specs.Buffers.{listed}
 use Rattle.slicc_plan.specs.CallTypes as call
-use Rattle.slicc_plan.specs.Environment.{Environment}
-use Rattle.slicc_plan.specs.ExpressionTypes.{broken_where, from_operand, joined, operator_type, span_of, typed, wanted_left, wanted_right}
-use Rattle.slicc_plan.specs.Meanings.{Wanted, unfit, value}
-use Rattle.slicc_plan.specs.Order.{earlier_of_both, first_of}
-use Rattle.slicc_plan.specs.Types.{built_in}
+use Rattle.slicc_plan.specs.Prelude.{Environment, broken_where, from_operand, joined, operator_type, span_of, typed, wanted_left, wanted_right, unfit, value, earlier_of_both, first_of, built_in}
+use Rattle.slicc_plan.specs.Meanings.{Wanted}
 use Rattle.slicc_plan.proofs.Firsts.{first_of-append}
 use Rattle.body_types.specs.declared.typed.Given.{Given}
 use Rattle.body_types.specs.declared.typed.Typed.{Typed}
-use Rattle.body_types.specs.Found.{Found, found_of, given_of, typed_of}
+use Rattle.body_types.specs.Prelude.{Found, found_of, given_of, typed_of}
 use Rattle.call_types.proofs.Firsts.{first_of_listed, first_of_listed_append}
 use Rattle.call_types.proofs.Steps.{found_plain}
 

@@ -5,7 +5,7 @@ use Rattle.std.specs.List.{list_any}
 use Rattle.std.specs.Str.{bytes_eq}
 use Rattle.slicc_plan.specs.declared.built_in.BuiltInType.{BuiltInType}
 use Rattle.slicc_plan.specs.declared.built_in.BuiltInType.TheVariants.{Int, Cycles, Tick, Bool, Address, MachineId, MachineType, NetDest, DataBlock, AccessPermission, RequestType, MessageSize, Request, AbstractEntry, Void, Cache, Directory, TbeTable, Sequencer, Buffer}
-use Rattle.slicc_plan.specs.BuiltIn.{is_among, members_of}
+use Rattle.slicc_plan.specs.Prelude.{is_among, members_of}
 use Rattle.declared_types.specs.Types.{texts_of}
 
 pub among_texts : (text : List ℕ) (names : List (Bor (List ℕ))) → is_among (texts_of names) text ≡ list_any (λ name. bytes_eq name.now text) names

@@ -8,16 +8,14 @@ use Rattle.slicc_plan.specs.declared.broken.Broken.{Broken}
 use Rattle.slicc_plan.specs.declared.broken.Rule.TheVariants.{NotThere}
 use Rattle.slicc_plan.specs.declared.built_in.BuiltInType.{BuiltInType}
 use Rattle.slicc_plan.specs.Buffers.{listed}
-use Rattle.slicc_plan.specs.CallTypes.{Given, Typed, Written, a_field, no_place, plain}
-use Rattle.slicc_plan.specs.Environment.{Environment, wrong_type_name}
-use Rattle.slicc_plan.specs.ExpressionTypes.{cast_meaning, cast_to, field_in, field_of, found_field, from_operand, given_at, joined, operator_type, wanted_left, wanted_right}
-use Rattle.slicc_plan.specs.Meanings.{Meaning, value, no_line, bare_line, new_line, incoming, outgoing, table, in_port, out_port, nothing, unknown, Wanted, one_of, told, unfit}
-use Rattle.slicc_plan.specs.Order.{earlier_of_both, first_of}
-use Rattle.slicc_plan.specs.Types.{KnownType, built_in}
+use Rattle.slicc_plan.specs.CallTypes.{Written}
+use Rattle.slicc_plan.specs.Prelude.{Given, Typed, a_field, no_place, plain, Environment, wrong_type_name, cast_meaning, cast_to, field_in, found_field, from_operand, given_at, joined, operator_type, wanted_left, wanted_right, Meaning, value, no_line, bare_line, incoming, outgoing, unknown, one_of, told, unfit, earlier_of_both, first_of, KnownType, built_in}
+use Rattle.slicc_plan.specs.ExpressionTypes.{field_of}
+use Rattle.slicc_plan.specs.Meanings.{new_line, table, in_port, out_port, nothing, Wanted}
 use Rattle.slicc_plan.proofs.Firsts.{first_of-append}
-use Rattle.body_types.specs.Found.{Found, found_of}
+use Rattle.body_types.specs.Prelude.{Found, found_of}
 use Rattle.call_types.proofs.Firsts.{first_of_listed, first_of_listed_append}
-use Rattle.expression_types.specs.Known.{known}
+use Rattle.expression_types.specs.Prelude.{known}
 
 -- Lists of which the firsts are the same.
 

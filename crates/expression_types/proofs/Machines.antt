@@ -6,11 +6,10 @@ use Rattle.std.proofs.lemmas.List.{drop_more}
 use Rattle.std.proofs.lemmas.List.Folds.{list_any-append}
 use Rattle.slicc_ast.specs.declared.tree.item.Tree.{Tree}
 use Rattle.slicc_ast.specs.declared.tree.machine.Machine.{Machine}
-use Rattle.slicc_plan.specs.BuiltIn.{is_among}
-use Rattle.slicc_plan.specs.Declarations.{Scope, machine_names, machines_of, wide_scopes}
-use Rattle.call_types.specs.Called.{machines_in}
+use Rattle.slicc_plan.specs.Prelude.{is_among, Scope, machine_names, machines_of, wide_scopes}
+use Rattle.call_types.specs.Prelude.{machines_in}
 use Rattle.call_types.proofs.Machines.{machines_wide}
-use Rattle.expression_types.specs.Known.{is_called}
+use Rattle.expression_types.specs.Prelude.{is_called}
 
 among_names : (text : List ℕ) (ms : List Machine) → is_among (map (λ (m : Machine). m.name.text) ms) text ≡ list_any (is_called text) ms
 among_names text [] = refl

@@ -4,12 +4,9 @@ use Rattle.slicc_ast.specs.declared.tree.span.Span.{Span}
 use Rattle.slicc_ast.specs.declared.tree.expression.Expr.{Row_of-Expr, end_of-Expr, more_of-Expr, items-the_row-Expr, Row_of-Operand, end_of-Operand, more_of-Operand, items-the_row-Operand, Row_of-Suffix, end_of-Suffix, more_of-Suffix, items-the_row-Suffix}
 use Rattle.slicc_ast.specs.declared.tree.expression.Operand.{Operand}
 use Rattle.slicc_ast.specs.declared.tree.expression.Suffix.{Suffix, Field, Method', Index}
-use Rattle.slicc_plan.specs.CallTypes.{Typed}
-use Rattle.slicc_plan.specs.Environment.{Environment}
-use Rattle.slicc_plan.specs.ExpressionTypes.{arguments_typed, given_at, joined, operands_typed, span_of, suffix_typed, suffixes_typed, typed}
-use Rattle.body_types.specs.Found.{found_of}
-use Rattle.expression_types.specs.Known.{known}
-use Rattle.expression_types.specs.Lists.{all_arguments, all_operands, all_suffixes}
+use Rattle.slicc_plan.specs.Prelude.{Typed, Environment, arguments_typed, given_at, joined, operands_typed, span_of, suffix_typed, suffixes_typed, typed}
+use Rattle.body_types.specs.Prelude.{found_of}
+use Rattle.expression_types.specs.Prelude.{known, all_arguments, all_operands, all_suffixes}
 use Rattle.expression_types.proofs.Calls.{index_known_on, method_known_on}
 use Rattle.expression_types.proofs.Known.{by_known, field_known, joined_left}
 

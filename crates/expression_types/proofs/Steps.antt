@@ -11,12 +11,10 @@ use Rattle.slicc_ast.specs.declared.tree.expression.Suffix.{Suffix}
 use Rattle.slicc_plan.specs.CallTypes as call
 use Rattle.slicc_plan.specs.declared.built_in.BuiltInType.{BuiltInType}
 use Rattle.slicc_plan.specs.Meanings.{Wanted}
-use Rattle.slicc_plan.specs.Environment.{Environment, type_named}
-use Rattle.slicc_plan.specs.ExpressionTypes.{cast_to, from_operand, given_at, joined, span_of, suffix_typed, typed}
+use Rattle.slicc_plan.specs.Prelude.{Environment, type_named, cast_to, from_operand, given_at, joined, span_of, suffix_typed, typed}
 use Rattle.body_types.specs.declared.typed.Given.{Given}
-use Rattle.body_types.specs.Found.{all_given_of, found_of, given_of}
-use Rattle.expression_types.specs.Known.{all_known, known, known_given}
-use Rattle.expression_types.specs.Lists.{all_arguments, all_operands, all_suffixes}
+use Rattle.body_types.specs.Prelude.{all_given_of, found_of, given_of}
+use Rattle.expression_types.specs.Prelude.{all_known, known, known_given, all_arguments, all_operands, all_suffixes}
 use Rattle.expression_types.proofs.Calls.{index_known, method_known, named_known}
 use Rattle.expression_types.proofs.Known.{by_known, cast_known, joined_right, known_same, operand_known}
 use Rattle.expression_types.proofs.Rows.{operands_same, suffixes_same}

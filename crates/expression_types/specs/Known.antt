@@ -3,8 +3,7 @@ use Rattle.std.specs.Prelude.{ℕ, Bool, List, map}
 use Rattle.std.specs.Str.{bytes_eq}
 use Rattle.slicc_ast.specs.declared.tree.machine.Machine.{Machine}
 use Rattle.slicc_plan.specs.Buffers.{listed}
-use Rattle.slicc_plan.specs.CallTypes.{Given, Typed}
-use Rattle.slicc_plan.specs.Order.{first_of}
+use Rattle.slicc_plan.specs.Prelude.{Given, Typed, first_of}
 
 abbrev pub known : Typed → Typed
 known t = record { meaning = t.meaning; written = t.written; broken = listed (first_of t.broken) }

@@ -4,9 +4,7 @@ use Rattle.slicc_ast.specs.declared.tree.span.Span.{Span}
 use Rattle.slicc_ast.specs.declared.tree.expression.Expr.{Expr}
 use Rattle.slicc_ast.specs.declared.tree.expression.Operand.{Operand}
 use Rattle.slicc_ast.specs.declared.tree.expression.Suffix.{Suffix}
-use Rattle.slicc_plan.specs.CallTypes.{Given, Typed}
-use Rattle.slicc_plan.specs.Environment.{Environment}
-use Rattle.slicc_plan.specs.ExpressionTypes.{given_at, joined, span_of, suffix_typed, typed}
+use Rattle.slicc_plan.specs.Prelude.{Given, Typed, Environment, given_at, joined, span_of, suffix_typed, typed}
 
 abbrev pub all_operands : Environment → Span → Typed → List Operand → Typed
 all_operands env at left [] = left

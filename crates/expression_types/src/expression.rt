@@ -1,22 +1,14 @@
 //! Expressions.
 ghost use Rattle.std.specs.Prelude.{◌≡◌, [], ◌∷◌, IfOk};
-ghost use Rattle.slicc_plan.specs.CallTypes.{index_call as index_call_in, method_call as method_call_in, named_call as named_call_in, plain as plain_of};
-ghost use Rattle.slicc_plan.specs.Environment.{type_named};
-ghost use Rattle.slicc_plan.specs.ExpressionTypes.{broken_where as broken_where_of, cast_to as cast_to_in, from_operand as from_operand_in, given_at, span_of as span_in, suffix_typed, typed as typed_in};
-ghost use Rattle.slicc_plan.specs.Meanings.{new_line as new_line_of, told as told_of, value};
+ghost use Rattle.slicc_plan.specs.Prelude.{index_call, method_call, named_call, plain, type_named, broken_where, cast_to, from_operand, given_at, span_of, suffix_typed, typed, told, value, first_of, built_in};
+ghost use Rattle.slicc_plan.specs.Meanings.{new_line};
 ghost use Rattle.slicc_plan.specs.declared.broken.Rule.TheVariants.{NotAllowedHere};
-ghost use Rattle.slicc_plan.specs.Order.{first_of};
-ghost use Rattle.slicc_plan.specs.Types.{built_in};
-ghost use Rattle.body_types.specs.Environments.{IsEnvironment, environment_of};
-ghost use Rattle.body_types.specs.Found.{all_given_of, found_of, given_of, typed_of};
-ghost use Rattle.body_types.specs.Views.{wanted_of};
-ghost use Rattle.expression_types.specs.Known.{all_known};
-ghost use Rattle.expression_types.specs.Lists.{all_arguments, all_operands, all_suffixes};
+ghost use Rattle.body_types.specs.Prelude.{IsEnvironment, environment_of, all_given_of, found_of, given_of, typed_of, wanted_of};
+ghost use Rattle.expression_types.specs.Prelude.{all_known, all_arguments, all_operands, all_suffixes};
 
 use crate::fields::field_of;
 use crate::members::{member_type, variable_type};
-use crate::operators::{cast_to, from_operand, joined, of_built_in};
-use crate::places::span_of;
+use crate::operators::{cast_to, from_operand, joined, of_built_in, span_of};
 use body_types::{Environment, Given, Meaning, Typed, Wanted, told, unfit};
 use call_types::{index_call, method_call, named_call, plain};
 use declared_types::KnownType;
@@ -27,7 +19,7 @@ use std::alloc::Global;
 
 // What an expression is, with its place.
 fn with_place<'a>(e: &Expr, typed: Typed<'a>) -> Given<'a>
-    ensures { given_of result ≡ given_at (span_in e.now) (typed_of typed.entry) }
+    ensures { given_of result ≡ given_at (span_of e.now) (typed_of typed.entry) }
 {
     Given {
         place: span_of(e),
@@ -37,14 +29,14 @@ fn with_place<'a>(e: &Expr, typed: Typed<'a>) -> Given<'a>
 
 // A value of a built-in type.
 fn value_of<'a>(b: BuiltInType) -> Typed<'a>
-    ensures { typed_of result ≡ plain_of (value (built_in b)) [] }
+    ensures { typed_of result ≡ plain (value (built_in b)) [] }
 {
     plain(Meaning::Value(KnownType::BuiltIn(b)), None)
 }
 
 // A new line, which an expression alone may not make.
 fn new_line<'a>(made: &'a Name, at: Span) -> Typed<'a>
-    ensures { typed_of result ≡ plain_of (new_line_of made.now) (told_of NotAllowedHere at ∷ []) }
+    ensures { typed_of result ≡ plain (new_line made.now) (told NotAllowedHere at ∷ []) }
 {
     plain(Meaning::NewLine(made), Some(told(Rule::NotAllowedHere, at)))
 }
@@ -57,7 +49,7 @@ pub fn typed<'a>(
     e: &'a Expr,
 ) -> Result<Typed<'a>, NoMemory>
     requires { IsEnvironment env }
-    ensures { IfOk result (λ t. found_of (typed_of t) ≡ found_of (typed_in (environment_of env.entry) e.now)) }
+    ensures { IfOk result (λ t. found_of (typed_of t) ≡ found_of (typed (environment_of env.entry) e.now)) }
 {
     match e {
         Expr::Operation { first, others, .. } => {
@@ -122,7 +114,7 @@ fn alone<'a>(
     operand: &'a Expr,
 ) -> Result<Typed<'a>, NoMemory>
     requires { IsEnvironment env }
-    ensures { IfOk result (λ t. found_of (typed_of t) ≡ found_of (from_operand_in (environment_of env.entry) (wanted_of wanted.entry) answered (given_at (span_in operand.now) (typed_in (environment_of env.entry) operand.now)))) }
+    ensures { IfOk result (λ t. found_of (typed_of t) ≡ found_of (from_operand (environment_of env.entry) (wanted_of wanted.entry) answered (given_at (span_of operand.now) (typed (environment_of env.entry) operand.now)))) }
 {
     let t = typed(alloc, env, operand)?;
     Ok(from_operand(env, wanted, answered, with_place(operand, t)))
@@ -138,7 +130,7 @@ fn operands<'a>(
     first: &Expr,
 ) -> Result<Typed<'a>, NoMemory>
     requires { IsEnvironment env }
-    ensures { IfOk result (λ t. found_of (typed_of t) ≡ found_of (all_operands (environment_of env.entry) (span_in first.now) (typed_of left.entry) others.now)) }
+    ensures { IfOk result (λ t. found_of (typed_of t) ≡ found_of (all_operands (environment_of env.entry) (span_of first.now) (typed_of left.entry) others.now)) }
 {
     let mut left = left;
     for o in others {
@@ -162,7 +154,7 @@ fn cast<'a>(
     value: &'a Expr,
 ) -> Result<Typed<'a>, NoMemory>
     requires { IsEnvironment env }
-    ensures { IfOk result (λ t. found_of (typed_of t) ≡ found_of (cast_to_in (environment_of env.entry) target.now (given_at (span_in value.now) (typed_in (environment_of env.entry) value.now)) (type_named (environment_of env.entry) target.now.text))) }
+    ensures { IfOk result (λ t. found_of (typed_of t) ≡ found_of (cast_to (environment_of env.entry) target.now (given_at (span_of value.now) (typed (environment_of env.entry) value.now)) (type_named (environment_of env.entry) target.now.text))) }
 {
     let t = typed(alloc, env, value)?;
     Ok(cast_to(env, target, with_place(value, t)))
@@ -178,7 +170,7 @@ fn called<'a>(
     arguments: &'a [Expr],
 ) -> Result<Typed<'a>, NoMemory>
     requires { IsEnvironment env }
-    ensures { IfOk result (λ t. found_of (typed_of t) ≡ found_of (named_call_in (environment_of env.entry) at name.now (all_arguments (environment_of env.entry) arguments.now))) }
+    ensures { IfOk result (λ t. found_of (typed_of t) ≡ found_of (named_call (environment_of env.entry) at name.now (all_arguments (environment_of env.entry) arguments.now))) }
 {
     let given = all_given(alloc, env, arguments)?;
     named_call(alloc, env, at, name, &given)
@@ -195,7 +187,7 @@ fn method<'a>(
     arguments: &'a [Expr],
 ) -> Result<Typed<'a>, NoMemory>
     requires { IsEnvironment env }
-    ensures { IfOk result (λ t. found_of (typed_of t) ≡ found_of (method_call_in (environment_of env.entry) at (typed_of left.entry) name.now (all_arguments (environment_of env.entry) arguments.now))) }
+    ensures { IfOk result (λ t. found_of (typed_of t) ≡ found_of (method_call (environment_of env.entry) at (typed_of left.entry) name.now (all_arguments (environment_of env.entry) arguments.now))) }
 {
     let given = all_given(alloc, env, arguments)?;
     method_call(alloc, env, at, left, name, &given)
@@ -211,7 +203,7 @@ fn indexed<'a>(
     key: &'a Expr,
 ) -> Result<Typed<'a>, NoMemory>
     requires { IsEnvironment env }
-    ensures { IfOk result (λ t. found_of (typed_of t) ≡ found_of (index_call_in (environment_of env.entry) at (typed_of left.entry) (given_at (span_in key.now) (typed_in (environment_of env.entry) key.now)))) }
+    ensures { IfOk result (λ t. found_of (typed_of t) ≡ found_of (index_call (environment_of env.entry) at (typed_of left.entry) (given_at (span_of key.now) (typed (environment_of env.entry) key.now)))) }
 {
     let t = typed(alloc, env, key)?;
     index_call(alloc, env, at, left, with_place(key, t))
@@ -283,7 +275,7 @@ pub fn broken_where<'a>(
     e: &'a Expr,
 ) -> Result<Option<Broken>, NoMemory>
     requires { IsEnvironment env }
-    ensures { IfOk result (λ first. first ≡ first_of (broken_where_of (environment_of env.entry) (wanted_of wanted.entry) e.now)) }
+    ensures { IfOk result (λ first. first ≡ first_of (broken_where (environment_of env.entry) (wanted_of wanted.entry) e.now)) }
 {
     let t = typed(alloc, env, e)?;
     let then = unfit(env.lines, wanted, span_of(e), t.meaning);

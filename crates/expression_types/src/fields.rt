@@ -1,16 +1,11 @@
 //! Fields.
 ghost use Rattle.std.specs.Prelude.{◌≡◌, map};
 ghost use Rattle.std.specs.Option.{option_copied, option_map};
-ghost use Rattle.slicc_plan.specs.BuiltIn.{request_fields as request_fields_of};
+ghost use Rattle.slicc_plan.specs.Prelude.{request_fields, first_named, member, member_name, built_in_field, field_declared, field_in, fields_scope, found_field};
 ghost use Rattle.slicc_plan.specs.Buffers.{listed};
-ghost use Rattle.slicc_plan.specs.Declarations.{first_named, member as member_declaration, member_name as member_name_of};
-ghost use Rattle.slicc_plan.specs.ExpressionTypes.{built_in_field as built_in_field_of, field_declared as field_declared_of, field_in as field_in_of, field_of as field_of_in, fields_scope, found_field as found_field_of, request_field as request_field_of};
-ghost use Rattle.declared_types.specs.Types.{meaning_in, named_of};
-ghost use Rattle.declared_types.specs.Lent.{scope_of, type_of};
-ghost use Rattle.declared_types.specs.Scopes.{scope_at};
-ghost use Rattle.body_types.specs.Environments.{IsEnvironment, environment_of};
-ghost use Rattle.body_types.specs.Found.{found_of, typed_of};
-ghost use Rattle.body_types.specs.Views.{meaning_of, written_of};
+ghost use Rattle.slicc_plan.specs.ExpressionTypes.{field_of, request_field};
+ghost use Rattle.declared_types.specs.Prelude.{meaning_in, named_of, scope_of, type_of, scope_at};
+ghost use Rattle.body_types.specs.Prelude.{IsEnvironment, environment_of, found_of, typed_of, meaning_of, written_of};
 
 use body_types::{Environment, Meaning, Typed, Written, told, value_of_type};
 use call_types::plain;
@@ -19,7 +14,7 @@ use slicc_ast::tree::{Member, Name};
 use slicc_plan::{Broken, BuiltInType, Rule, earlier_of_two};
 
 fn member_name(m: &Member) -> &Name
-    ensures { result.now ≡ member_name_of m.now }
+    ensures { result.now ≡ member_name m.now }
 {
     match m {
         Member::Field { name, .. } | Member::Method { name, .. } => name,
@@ -28,7 +23,7 @@ fn member_name(m: &Member) -> &Name
 }
 
 fn first_member<'a>(members: &'a [Member], text: &[u8]) -> Option<&'a Member>
-    ensures { option_map member_declaration (option_copied result) ≡ first_named text.now (map member_declaration members.now) }
+    ensures { option_map member (option_copied result) ≡ first_named text.now (map member members.now) }
 {
     for m in members {
         if member_name(m).text.as_slice() == text {
@@ -61,13 +56,13 @@ fn field_among(fields: &[NamedType], text: &[u8]) -> Option<BuiltInType>
 }
 
 fn request_field(text: &[u8]) -> Option<BuiltInType>
-    ensures { result ≡ meaning_in request_fields_of text.now }
+    ensures { result ≡ meaning_in request_fields text.now }
 {
     field_among(request_fields(), text)
 }
 
 fn built_in_field<'a>(b: BuiltInType, text: &[u8]) -> Option<Meaning<'a>>
-    ensures { option_map meaning_of result ≡ built_in_field_of b text.now }
+    ensures { option_map meaning_of result ≡ built_in_field b text.now }
 {
     match b {
         BuiltInType::Request => match request_field(text) {
@@ -86,7 +81,7 @@ fn structure_field<'a>(
     text: &[u8],
 ) -> Option<Meaning<'a>>
     requires { IsEnvironment env }
-    ensures { option_map meaning_of result ≡ field_declared_of env.entry.scopes.now.trees.now env.entry.lines.machine.now (fields_scope env.entry.lines.machine.now (scope_of scope.entry)) (first_named text.now (map member_declaration members.now)) }
+    ensures { option_map meaning_of result ≡ field_declared env.entry.scopes.now.trees.now env.entry.lines.machine.now (fields_scope env.entry.lines.machine.now (scope_of scope.entry)) (first_named text.now (map member members.now)) }
 {
     match first_member(members, text) {
         Some(Member::Field { kind, .. }) => {
@@ -102,7 +97,7 @@ fn structure_field<'a>(
 // The field of this name in a type.
 fn field_in<'a>(env: Environment<'_, 'a>, t: KnownType<'a>, text: &[u8]) -> Option<Meaning<'a>>
     requires { IsEnvironment env }
-    ensures { option_map meaning_of result ≡ field_in_of env.entry.scopes.now.trees.now env.entry.lines.machine.now (type_of t.entry) text.now }
+    ensures { option_map meaning_of result ≡ field_in env.entry.scopes.now.trees.now env.entry.lines.machine.now (type_of t.entry) text.now }
 {
     match t {
         KnownType::BuiltIn(b) => built_in_field(b, text),
@@ -118,7 +113,7 @@ fn found_field<'a>(
     n: &Name,
     meaning: Option<Meaning<'a>>,
 ) -> Typed<'a>
-    ensures { found_of (typed_of result) ≡ found_of (found_field_of (written_of written) (listed broken) n.now (option_map meaning_of meaning.entry)) }
+    ensures { found_of (typed_of result) ≡ found_of (found_field (written_of written) (listed broken) n.now (option_map meaning_of meaning.entry)) }
 {
     match meaning {
         None => {
@@ -136,7 +131,7 @@ fn found_field<'a>(
 /// The field of this name of that.
 pub fn field_of<'a>(env: Environment<'_, 'a>, on: Typed<'a>, n: &Name) -> Typed<'a>
     requires { IsEnvironment env }
-    ensures { found_of (typed_of result) ≡ found_of (field_of_in (environment_of env.entry) (listed on.entry.broken) n.now (meaning_of on.entry.meaning)) }
+    ensures { found_of (typed_of result) ≡ found_of (field_of (environment_of env.entry) (listed on.entry.broken) n.now (meaning_of on.entry.meaning)) }
 {
     let text = n.text.as_slice();
     match on.meaning {

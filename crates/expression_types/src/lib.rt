@@ -5,7 +5,6 @@ mod expression;
 mod fields;
 mod members;
 mod operators;
-mod places;
 
 pub use expression::{broken_where, typed};
-pub use places::span_of;
+pub use operators::span_of;

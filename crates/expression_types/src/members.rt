@@ -3,17 +3,13 @@ ghost use Rattle.std.specs.Prelude.{◌≡◌, map};
 ghost use Rattle.std.specs.List.{list_any};
 ghost use Rattle.std.specs.Option.{option_map};
 ghost use Rattle.std.specs.Str.{bytes_eq};
-ghost use Rattle.slicc_ast.specs.declared.tree.declaration.State.{State as StateRecord};
-ghost use Rattle.slicc_ast.specs.declared.tree.declaration.Symbol.{Symbol as SymbolRecord};
-ghost use Rattle.slicc_plan.specs.BuiltIn.{is_among, members_of, nature_of};
-ghost use Rattle.slicc_plan.specs.Declarations.{machine_names};
-ghost use Rattle.slicc_plan.specs.ExpressionTypes.{enumeration_members, is_enumeration_nature, member_among as member_among_of, member_type as member_type_of, variable_type as variable_type_of, written_as as written_as_of};
-ghost use Rattle.call_types.specs.Called.{machines_in};
-ghost use Rattle.declared_types.specs.Lent.{scope_of, type_of};
-ghost use Rattle.body_types.specs.Environments.{IsEnvironment, environment_of};
-ghost use Rattle.body_types.specs.Found.{found_of, typed_of};
-ghost use Rattle.body_types.specs.Views.{written_of};
-ghost use Rattle.expression_types.specs.Known.{is_called};
+ghost use Rattle.slicc_ast.specs.declared.tree.declaration.State.{State};
+ghost use Rattle.slicc_ast.specs.declared.tree.declaration.Symbol.{Symbol};
+ghost use Rattle.slicc_plan.specs.Prelude.{is_among, members_of, nature_of, machine_names, enumeration_members, is_enumeration_nature, member_among, member_type, variable_type, written_as};
+ghost use Rattle.call_types.specs.Prelude.{machines_in};
+ghost use Rattle.declared_types.specs.Prelude.{scope_of, type_of};
+ghost use Rattle.body_types.specs.Prelude.{IsEnvironment, environment_of, found_of, typed_of, written_of};
+ghost use Rattle.expression_types.specs.Prelude.{is_called};
 
 use body_types::{
     Environment, Meaning, Typed, Written, told, type_named, value_named, wrong_type_name,
@@ -24,7 +20,7 @@ use slicc_ast::tree::{Name, State, Symbol};
 use slicc_plan::{BuiltInType, Rule};
 
 fn written_as(is_local: bool) -> Written
-    ensures { written_of result ≡ written_as_of is_local }
+    ensures { written_of result ≡ written_as is_local }
 {
     if is_local {
         Written::Local
@@ -36,7 +32,7 @@ fn written_as(is_local: bool) -> Written
 /// A name of a value.
 pub fn variable_type<'a>(env: Environment<'_, 'a>, n: &Name) -> Typed<'a>
     requires { IsEnvironment env }
-    ensures { typed_of result ≡ variable_type_of (environment_of env.entry) n.now }
+    ensures { typed_of result ≡ variable_type (environment_of env.entry) n.now }
 {
     match value_named(env, n.text.as_slice()) {
         None => plain(Meaning::Unknown, Some(told(Rule::NotThere, n.span))),
@@ -49,7 +45,7 @@ pub fn variable_type<'a>(env: Environment<'_, 'a>, n: &Name) -> Typed<'a>
 }
 
 fn has_symbol(members: &[Symbol], text: &[u8]) -> bool
-    ensures { result ≡ is_among (map (λ (s : SymbolRecord). s.name.text) members.now) text.now }
+    ensures { result ≡ is_among (map (λ (s : Symbol). s.name.text) members.now) text.now }
 {
     for s in members {
         if s.name.text.as_slice() == text {
@@ -60,7 +56,7 @@ fn has_symbol(members: &[Symbol], text: &[u8]) -> bool
 }
 
 fn has_state(members: &[State], text: &[u8]) -> bool
-    ensures { result ≡ is_among (map (λ (s : StateRecord). s.name.text) members.now) text.now }
+    ensures { result ≡ is_among (map (λ (s : State). s.name.text) members.now) text.now }
 {
     for s in members {
         if s.name.text.as_slice() == text {
@@ -142,7 +138,7 @@ fn has_member(scopes: &Scopes, t: KnownType, text: &[u8]) -> Option<bool>
 
 // A member of a type, if it is an enumeration and has the member.
 fn member_among<'a>(scopes: &Scopes, t: KnownType<'a>, owner: &Name, member: &Name) -> Typed<'a>
-    ensures { typed_of result ≡ member_among_of (type_of t.entry) owner.now member.now (enumeration_members scopes.now.trees.now (type_of t.entry)) }
+    ensures { typed_of result ≡ member_among (type_of t.entry) owner.now member.now (enumeration_members scopes.now.trees.now (type_of t.entry)) }
 {
     match has_member(scopes, t, member.text.as_slice()) {
         None => plain(Meaning::Unknown, Some(told(Rule::WrongType, owner.span))),
@@ -154,7 +150,7 @@ fn member_among<'a>(scopes: &Scopes, t: KnownType<'a>, owner: &Name, member: &Na
 /// A member of an enumeration.
 pub fn member_type<'a>(env: Environment<'_, 'a>, owner: &Name, member: &Name) -> Typed<'a>
     requires { IsEnvironment env }
-    ensures { found_of (typed_of result) ≡ found_of (member_type_of (environment_of env.entry) owner.now member.now) }
+    ensures { found_of (typed_of result) ≡ found_of (member_type (environment_of env.entry) owner.now member.now) }
 {
     match type_named(env, owner.text.as_slice()) {
         None => {

@@ -1,13 +1,8 @@
-//! Operators, and what has one operand.
+//! Operators, what has one operand, and where expressions are.
 ghost use Rattle.std.specs.Prelude.{◌≡◌};
-ghost use Rattle.slicc_plan.specs.ExpressionTypes.{cast_meaning as cast_meaning_of, cast_to as cast_to_in, from_operand as from_operand_in, joined as joined_in, operator_type as operator_type_of, wanted_left as wanted_left_of, wanted_right as wanted_right_of};
-ghost use Rattle.slicc_plan.specs.Environment.{type_named as type_named_in};
-ghost use Rattle.slicc_plan.specs.Meanings.{of_built_in as of_built_in_of};
-ghost use Rattle.declared_types.specs.Lent.{type_of};
-ghost use Rattle.body_types.specs.Environments.{IsEnvironment, environment_of};
-ghost use Rattle.body_types.specs.Found.{found_of, given_of, typed_of};
-ghost use Rattle.body_types.specs.Lines.{AreLines};
-ghost use Rattle.body_types.specs.Views.{meaning_of, wanted_of};
+ghost use Rattle.slicc_plan.specs.Prelude.{cast_meaning, cast_to, from_operand, joined, operator_type, wanted_left, wanted_right, type_named, of_built_in, span_of};
+ghost use Rattle.declared_types.specs.Prelude.{type_of};
+ghost use Rattle.body_types.specs.Prelude.{IsEnvironment, environment_of, found_of, given_of, typed_of, AreLines, meaning_of, wanted_of};
 
 use body_types::{
     Environment, Given, Lines, Meaning, Typed, Wanted, fits, like_it, type_named, unfit,
@@ -15,18 +10,18 @@ use body_types::{
 };
 use call_types::plain;
 use declared_types::KnownType;
-use slicc_ast::tree::{Operator, TypeName};
+use slicc_ast::tree::{Expr, Operator, Span, TypeName};
 use slicc_plan::{BuiltInType, earlier_of_two};
 
 /// What a built-in type's values are wanted as.
 pub fn of_built_in<'a>(b: BuiltInType) -> Wanted<'a>
-    ensures { wanted_of result ≡ of_built_in_of b }
+    ensures { wanted_of result ≡ of_built_in b }
 {
     Wanted::OneOf(Some(KnownType::BuiltIn(b)), None)
 }
 
 fn wanted_left<'a>(operator: Operator) -> Wanted<'a>
-    ensures { wanted_of result ≡ wanted_left_of operator }
+    ensures { wanted_of result ≡ wanted_left operator }
 {
     match operator {
         Operator::Or | Operator::And => of_built_in(BuiltInType::Bool),
@@ -36,7 +31,7 @@ fn wanted_left<'a>(operator: Operator) -> Wanted<'a>
 }
 
 fn wanted_right<'a>(operator: Operator, left: Meaning<'a>) -> Wanted<'a>
-    ensures { wanted_of result ≡ wanted_right_of operator (meaning_of left.entry) }
+    ensures { wanted_of result ≡ wanted_right operator (meaning_of left.entry) }
 {
     match operator {
         Operator::Equal | Operator::Unequal => like_it(left),
@@ -45,7 +40,7 @@ fn wanted_right<'a>(operator: Operator, left: Meaning<'a>) -> Wanted<'a>
 }
 
 fn operator_type(operator: Operator) -> BuiltInType
-    ensures { result ≡ operator_type_of operator }
+    ensures { result ≡ operator_type operator }
 {
     match operator {
         Operator::Plus | Operator::Minus | Operator::Times => BuiltInType::Int,
@@ -61,7 +56,7 @@ pub fn joined<'a>(
     right: Given<'a>,
 ) -> Typed<'a>
     requires { IsEnvironment env }
-    ensures { found_of (typed_of result) ≡ found_of (joined_in (environment_of env.entry) operator (given_of left.entry) (given_of right.entry)) }
+    ensures { found_of (typed_of result) ≡ found_of (joined (environment_of env.entry) operator (given_of left.entry) (given_of right.entry)) }
 {
     let first = earlier_of_two(left.typed.broken, right.typed.broken);
     let unfit_left = unfit(
@@ -88,7 +83,7 @@ pub fn from_operand<'a>(
     g: Given<'a>,
 ) -> Typed<'a>
     requires { IsEnvironment env }
-    ensures { found_of (typed_of result) ≡ found_of (from_operand_in (environment_of env.entry) (wanted_of wanted.entry) answered (given_of g.entry)) }
+    ensures { found_of (typed_of result) ≡ found_of (from_operand (environment_of env.entry) (wanted_of wanted.entry) answered (given_of g.entry)) }
 {
     let first = earlier_of_two(
         g.typed.broken,
@@ -100,7 +95,7 @@ pub fn from_operand<'a>(
 // A value of this type, unless it is told that it is none.
 fn cast_meaning<'a>(lines: Lines<'a>, t: KnownType<'a>, meaning: Meaning<'a>) -> Meaning<'a>
     requires { AreLines lines }
-    ensures { meaning_of result ≡ cast_meaning_of lines.entry.machine.now (type_of t.entry) (meaning_of meaning.entry) }
+    ensures { meaning_of result ≡ cast_meaning lines.entry.machine.now (type_of t.entry) (meaning_of meaning.entry) }
 {
     if fits(lines, Wanted::OneOf(Some(t), None), meaning) {
         value_of_type(lines, Some(t))
@@ -112,7 +107,7 @@ fn cast_meaning<'a>(lines: Lines<'a>, t: KnownType<'a>, meaning: Meaning<'a>) ->
 /// A value of the type whose name this is.
 pub fn cast_to<'a>(env: Environment<'_, 'a>, target: &TypeName, g: Given<'a>) -> Typed<'a>
     requires { IsEnvironment env }
-    ensures { found_of (typed_of result) ≡ found_of (cast_to_in (environment_of env.entry) target.now (given_of g.entry) (type_named_in (environment_of env.entry) target.now.text)) }
+    ensures { found_of (typed_of result) ≡ found_of (cast_to (environment_of env.entry) target.now (given_of g.entry) (type_named (environment_of env.entry) target.now.text)) }
 {
     match type_named(env, target.text.as_slice()) {
         None => {
@@ -125,5 +120,28 @@ pub fn cast_to<'a>(env: Environment<'_, 'a>, target: &TypeName, g: Given<'a>) ->
             let meaning = cast_meaning(env.lines, t, g.typed.meaning);
             plain(meaning, earlier_of_two(g.typed.broken, then))
         }
+    }
+}
+
+/// The place of an expression.
+#[tactic(auto, using(crate::proofs::Boxes::span_of_boxes))]
+pub fn span_of(e: &Expr) -> Span
+    ensures { result ≡ span_of e.now }
+{
+    match e {
+        Expr::Operation { span, .. }
+        | Expr::Postfix { span, .. }
+        | Expr::Member { span, .. }
+        | Expr::Call { span, .. } => *span,
+        Expr::Cast { span, .. } => *span,
+        Expr::Not(_, span)
+        | Expr::Negate(_, span)
+        | Expr::IsValid(_, span)
+        | Expr::IsInvalid(_, span)
+        | Expr::Group(_, span) => *span,
+        Expr::Number(_, span) => *span,
+        Expr::True(span) | Expr::False(span) | Expr::Nothing(span) => *span,
+        Expr::New(_, span) => *span,
+        Expr::Variable(name) => name.span,
     }
 }

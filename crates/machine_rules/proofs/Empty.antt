@@ -1,8 +1,7 @@
 -- Lists without an element.
 use Rattle.std.proofs.Common.{◌≡◌, ◌==◌, Bool, cond, List, [], ◌∷◌, length, refl, ap, arith}
 use Rattle.slicc_ast.specs.declared.tree.item.Tree.{Tree}
-use Rattle.slicc_plan.specs.Declarations.{machines_of}
-use Rattle.slicc_plan.specs.MachineParts.{at_end_of_first, is_empty, missing_machine}
+use Rattle.slicc_plan.specs.Prelude.{machines_of, at_end_of_first, is_empty, missing_machine}
 
 pub empty_as : {X : Type 0} (xs : List X) → is_empty xs ≡ (length xs == 0)
 empty_as [] = refl

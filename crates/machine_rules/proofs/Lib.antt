@@ -1,5 +1,4 @@
 mod Empty
-mod KnownIn
 mod Scopes
 mod Taken
 mod Walks

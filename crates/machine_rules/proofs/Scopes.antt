@@ -5,12 +5,10 @@ use Rattle.std.proofs.lemmas.List.{length-map, take_all}
 use Rattle.std.proofs.lemmas.Grind.{common_steps}
 use Rattle.slicc_ast.specs.declared.tree.machine.Machine.{Machine}
 use Rattle.slicc_plan.specs.declared.broken.Broken.{Broken}
-use Rattle.slicc_plan.specs.Declarations.{everywhere, within}
-use Rattle.slicc_plan.specs.Machines.{in_each_from}
-use Rattle.slicc_plan.specs.Order.{first_after}
+use Rattle.slicc_plan.specs.Prelude.{everywhere, within, in_each_from, first_after}
 use Rattle.slicc_plan.proofs.Firsts.{first_after-append}
 use Rattle.machine_table.proofs.TablesOfMachines.{in_each_from-push}
-use Rattle.machine_rules.specs.MachinesIn.{found_within}
+use Rattle.machine_rules.specs.Prelude.{found_within}
 
 pub scope_within : (ms : List Machine) (k : ℕ) (m : Machine) → k < length ms → slice_index_or (map within ms) k everywhere ≡ within (slice_index_or ms k m)
 scope_within [] k m below = absurd (none k below)

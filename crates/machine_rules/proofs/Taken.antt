@@ -4,11 +4,11 @@ use Rattle.std.specs.Option.{option_map}
 use Rattle.slicc_ast.specs.declared.tree.machine.Machine.{Machine}
 use Rattle.slicc_plan.specs.declared.built_in.BuiltInType.TheVariants.{Address}
 use Rattle.slicc_plan.specs.Buffers.{listed}
-use Rattle.slicc_plan.specs.Machines.{entry_structure, tbe_structure}
-use Rattle.slicc_plan.specs.StateFunctions.{built_in_type, line_where, own_state, taken_to_permit, taken_to_read, taken_to_write}
+use Rattle.slicc_plan.specs.Prelude.{entry_structure, tbe_structure, line_where, own_state, taken_to_permit, taken_to_read, taken_to_write}
+use Rattle.slicc_plan.specs.StateFunctions.{built_in_type}
 use Rattle.machine_rules.specs.declared.wanted.Wanted.{Wanted}
 use Rattle.machine_rules.specs.declared.wanted.Wanted.TheVariants.{BuiltIn, OwnState}
-use Rattle.machine_rules.specs.WantedTypes.{wanted_of, wanted_present}
+use Rattle.machine_rules.specs.Prelude.{wanted_of, wanted_present}
 
 present_first : (o : Option Wanted) (ws : List (Option Wanted)) → wanted_present (o ∷ ws) ≡ listed (option_map wanted_of o) ++ wanted_present ws
 present_first None ws = refl

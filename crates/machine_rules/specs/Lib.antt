@@ -1,3 +1,4 @@
 pub mod MachinesIn
 pub mod Ports
 pub mod WantedTypes
+pub mod Prelude

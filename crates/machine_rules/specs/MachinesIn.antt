@@ -1,9 +1,9 @@
 -- A machine of a protocol, with its scope.
 use Rattle.std.specs.Prelude.{◌≡◌, List, []}
 use Rattle.slicc_ast.specs.declared.tree.machine.Machine.{Machine}
-use Rattle.slicc_plan.specs.Declarations.{Scope, everywhere, within}
-use Rattle.declared_types.specs.Scopes.{scope_at}
-use Rattle.machine_rules.specs.declared.machine_in.MachineIn.{MachineIn}
+use Rattle.slicc_plan.specs.Prelude.{Scope, everywhere, within}
+use Rattle.declared_types.specs.Prelude.{scope_at}
+use Rattle.machine_rules.specs.declared.rule.MachineIn.{MachineIn}
 
 -- the scope is the machine's
 pub record IsMachineIn (m : MachineIn) : Type 0 where

@@ -1,13 +1,9 @@
 //! The rules of machines that need no body: which of them a protocol breaks first.
 #![tactic(auto)]
 
-mod buffer_list;
-mod lines;
-mod machine_in;
 mod network_rules;
 mod parts;
 mod port_rules;
-mod ports;
 mod rule;
 mod state_rules;
 mod wanted;

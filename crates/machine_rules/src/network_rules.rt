@@ -1,20 +1,18 @@
 //! Two types of messages where there may be one, and two buffers from one network.
-ghost use Rattle.std.specs.Prelude.{◌≡◌, ◌++◌, [], ◌∷◌, IfOk, cond, map};
+ghost use Rattle.std.specs.Prelude.{◌≡◌, ◌++◌, [], ◌∷◌, IfOk, OnOk, cond, map};
 ghost use Rattle.std.specs.List.{list_any};
-ghost use Rattle.slicc_plan.specs.Networks.{are_from_one, differ, differing_after, doubled_after, doubled_in, is_one_network, is_one_own_buffer, is_own, all_ports, networks_broken, port_broken, wrong_networks};
+ghost use Rattle.slicc_plan.specs.Prelude.{are_from_one, buffer_in, buffers_of, differ, differing_after, doubled_after, doubled_in, is_one_network, is_one_own_buffer, is_own, all_ports, networks_broken, port_broken, wrong_networks, first_after};
 ghost use Rattle.slicc_plan.specs.Buffers as plan;
-ghost use Rattle.slicc_plan.specs.Order.{first_after};
+ghost use Rattle.declared_types.specs.Prelude.{declaration_of};
+ghost use Rattle.machine_table.specs.Prelude.{buffer_seen, place_seen, port_seen};
 ghost use Rattle.machine_rules.specs.MachinesIn.{IsMachineIn};
-ghost use Rattle.machine_rules.specs.Ports.{buffer_seen, place_seen, port_seen};
 
-use crate::buffer_list::{BufferIn, Place, buffers};
-use crate::machine_in::MachineIn;
 use crate::port_rules::{WrongPorts, told_if};
-use crate::ports::{PortOn, all_ports};
-use crate::rule::{MachineRule, first_in_machines};
+use crate::rule::{MachineIn, MachineRule, first_in_machines};
 use body_types::same_type;
-use declared_types::Scopes;
-use ruby_base::NoMemory;
+use declared_types::{Declared, Scopes};
+use machine_table::{BufferIn, Place, PortOn, all_ports, buffer_in};
+use ruby_base::{NoMemory, Seq};
 use slicc_plan::Broken;
 use std::alloc::Global;
 
@@ -123,6 +121,31 @@ fn judge_buffers(first: Option<Broken>, number: u16, buffers: &[BufferIn<'_>]) -
         found = judge_buffer(found, number, &buffers[..k], *b);
     }
     found
+}
+
+fn add_buffer<'a>(
+    list: &mut Seq<BufferIn<'a>>,
+    m: MachineIn<'_, 'a>,
+    d: Declared<'a>,
+) -> Result<(), NoMemory>
+    ensures { OnOk result (map buffer_seen list.new ≡ map buffer_seen list.old ++ plan.listed (buffer_in m.entry.scopes.now.trees.now m.entry.machine.now (declaration_of d.entry))) }
+{
+    match buffer_in(m.scopes, m.machine, d) {
+        None => Ok(()),
+        Some(b) => list.push(b),
+    }
+}
+
+// The buffers of a machine, in the order of the text.
+fn buffers<'a>(alloc: Global, m: MachineIn<'_, 'a>) -> Result<Seq<BufferIn<'a>>, NoMemory>
+    requires { IsMachineIn m }
+    ensures { IfOk result (λ list. map buffer_seen list ≡ buffers_of m.entry.scopes.now.trees.now m.entry.machine.now) }
+{
+    let mut list = Seq::new(alloc);
+    for d in m.scopes.declarations(m.scope) {
+        add_buffer(&mut list, m, *d)?;
+    }
+    Ok(list)
 }
 
 struct OneBuffer;

@@ -1,11 +1,8 @@
 //! Machines, states and events that a protocol should have, and pairs with two transitions.
 ghost use Rattle.std.specs.Prelude.{◌≡◌, ◌++◌, ℕ, map, IfOk};
-ghost use Rattle.slicc_plan.specs.Declarations.{machines_of};
-ghost use Rattle.slicc_plan.specs.MachineParts.{missing_machine, missing_parts, missing_parts_in};
-ghost use Rattle.slicc_plan.specs.Machines.{in_each_from};
-ghost use Rattle.slicc_plan.specs.Order.{first_after};
-ghost use Rattle.slicc_plan.specs.TwoTransitions.{shared_pairs};
+ghost use Rattle.slicc_plan.specs.Prelude.{machines_of, missing_machine, missing_parts, missing_parts_in, in_each_from, first_after, shared_pairs};
 
+use declaration_rules::earlier_at;
 use machine_table::{event_count, kept_number, machines, state_count, tabulate};
 use ruby_base::NoMemory;
 use slicc_ast::tree::{Machine, Tree};
@@ -45,15 +42,7 @@ fn missing_in(first: Option<Broken>, number: u16, m: &Machine) -> Option<Broken>
     ensures { result ≡ first_after first (missing_parts_in number m.now) }
 {
     if state_count(m) == 0 || event_count(m) == 0 {
-        return earlier_broken(
-            first,
-            Broken {
-                rule: Rule::NoStates,
-                machine: number,
-                place: m.span,
-                other: None,
-            },
-        );
+        return earlier_at(first, Rule::NoStates, number, m.span);
     }
     first
 }

@@ -3,25 +3,19 @@ ghost use Rattle.std.specs.Prelude.{◌≡◌, [], ◌∷◌, cond, flat_map};
 ghost use Rattle.std.specs.List.{list_any};
 ghost use Rattle.slicc_plan.specs.Buffers as plan;
 ghost use Rattle.slicc_plan.specs.declared.built_in.BuiltInType.TheVariants.{Sequencer};
-ghost use Rattle.slicc_plan.specs.Declarations.{within};
-ghost use Rattle.slicc_plan.specs.Limits.{is_sequencer};
-ghost use Rattle.slicc_plan.specs.Networks.{has_destination, has_sequencer as has_sequencer_of, is_destination, is_mandatory, is_no_request, is_sent, is_sent_nowhere, is_wrong_way, networks_broken, wrong_ports_in};
-ghost use Rattle.slicc_plan.specs.Order.{first_after};
-ghost use Rattle.slicc_plan.specs.Types.{is_built_in as is_built_in_of, type_in};
-ghost use Rattle.declared_types.specs.Lent.{declaration_of, declarations_of, type_of};
-ghost use Rattle.declared_types.specs.Scopes.{scope_at};
+ghost use Rattle.slicc_plan.specs.Prelude.{within, is_sequencer, has_destination, has_sequencer as has_sequencer_of, is_destination, is_no_request, is_sent, is_sent_nowhere, is_wrong_way, networks_broken, wrong_ports_in, first_after, is_built_in, type_in};
+ghost use Rattle.declared_types.specs.Prelude.{declaration_of, declarations_of, scope_of, type_of};
+ghost use Rattle.machine_table.specs.Prelude.{place_seen, port_seen};
 ghost use Rattle.machine_rules.specs.MachinesIn.{IsMachineIn};
-ghost use Rattle.machine_rules.specs.Ports.{IsKnownIn, buffer_seen, place_seen, port_seen, wrong_port};
+ghost use Rattle.machine_rules.specs.Ports.{wrong_port};
 
-use crate::buffer_list::{BufferIn, Place};
-use crate::machine_in::MachineIn;
-use crate::ports::{PortOn, port_in};
-use crate::rule::MachineRule;
-use declaration_rules::is_built_in;
+use crate::rule::{MachineIn, MachineRule};
+use declaration_rules::{earlier_at, is_built_in};
 use declared_types::{Declared, KnownType, Scope, Scopes};
+use machine_table::{Place, PortOn, is_destination, is_mandatory, port_in};
 use ruby_base::NoMemory;
 use slicc_ast::tree::{Member, TypeName};
-use slicc_plan::{Broken, BuiltInType, Rule, Span, earlier_broken};
+use slicc_plan::{Broken, BuiltInType, Rule, Span};
 use std::alloc::Global;
 
 /// The first broken rule, where something of the machine of this number breaks that of networks or doesn't.
@@ -31,20 +25,12 @@ pub fn told_if(first: Option<Broken>, is_broken: bool, number: u16, place: Span)
     if !is_broken {
         return first;
     }
-    earlier_broken(
-        first,
-        Broken {
-            rule: Rule::Networks,
-            machine: number,
-            place,
-            other: None,
-        },
-    )
+    earlier_at(first, Rule::Networks, number, place)
 }
 
 fn is_sequencer_type(m: MachineIn<'_, '_>, kind: &TypeName) -> bool
     requires { IsMachineIn m }
-    ensures { result ≡ is_built_in_of Sequencer (type_in m.entry.scopes.now.trees.now (within m.entry.machine.now) kind.now.text) }
+    ensures { result ≡ is_built_in Sequencer (type_in m.entry.scopes.now.trees.now (within m.entry.machine.now) kind.now.text) }
 {
     is_built_in(
         BuiltInType::Sequencer,
@@ -85,23 +71,8 @@ fn is_wrong_way(p: &PortOn<'_>) -> bool
     }
 }
 
-fn is_destination(scopes: &Scopes<'_>, scope: usize, member: &Member) -> bool
-    ensures { result ≡ is_destination scopes.now.trees.now (scope_at scopes.now.trees.now scope) member.now }
-{
-    match member {
-        Member::Field { kind, name, .. } => {
-            name.text.as_slice() == b"Destination".as_slice()
-                && is_built_in(
-                    BuiltInType::NetDest,
-                    scopes.type_in(scope, kind.text.as_slice()),
-                )
-        }
-        Member::Method { .. } | Member::Skipped(_) => false,
-    }
-}
-
-fn any_destination(scopes: &Scopes<'_>, scope: usize, members: &[Member]) -> bool
-    ensures { result ≡ list_any (is_destination scopes.now.trees.now (scope_at scopes.now.trees.now scope)) members.now }
+fn any_destination<'a>(scopes: &Scopes<'a>, scope: Scope<'a>, members: &[Member]) -> bool
+    ensures { result ≡ list_any (is_destination scopes.now.trees.now (scope_of scope.entry)) members.now }
 {
     for member in members {
         if is_destination(scopes, scope, member) {
@@ -111,14 +82,11 @@ fn any_destination(scopes: &Scopes<'_>, scope: usize, members: &[Member]) -> boo
     false
 }
 
-fn has_destination(m: MachineIn<'_, '_>, t: KnownType<'_>) -> bool
-    requires machine { IsMachineIn m }
-    requires known { IsKnownIn m.machine.now (type_of t) }
-    ensures { result ≡ has_destination m.entry.scopes.now.trees.now (type_of t.entry) }
+fn has_destination<'a>(scopes: &Scopes<'a>, t: KnownType<'a>) -> bool
+    ensures { result ≡ has_destination scopes.now.trees.now (type_of t.entry) }
 {
     match t {
-        KnownType::Structure(Scope::Everywhere, s) => any_destination(m.scopes, 0, &s.members),
-        KnownType::Structure(Scope::Within(_), s) => any_destination(m.scopes, m.scope, &s.members),
+        KnownType::Structure(scope, s) => any_destination(scopes, scope, &s.members),
         _ => false,
     }
 }
@@ -132,18 +100,10 @@ fn is_sent(p: &PortOn<'_>) -> bool
     }
 }
 
-fn is_sent_nowhere(m: MachineIn<'_, '_>, p: &PortOn<'_>) -> bool
-    requires machine { IsMachineIn m }
-    requires known { IsKnownIn m.machine.now (type_of p.now.message) }
-    ensures { result ≡ is_sent_nowhere m.entry.scopes.now.trees.now (port_seen p.now) }
+fn is_sent_nowhere<'a>(scopes: &Scopes<'a>, p: &PortOn<'a>) -> bool
+    ensures { result ≡ is_sent_nowhere scopes.now.trees.now (port_seen p.now) }
 {
-    is_sent(p) && !has_destination(m, p.message)
-}
-
-fn is_mandatory(b: BufferIn<'_>) -> bool
-    ensures { result ≡ is_mandatory (buffer_seen b.entry) }
-{
-    b.name.text.as_slice() == b"mandatoryQueue".as_slice()
+    is_sent(p) && !has_destination(scopes, p.message)
 }
 
 fn is_no_request(m: MachineIn<'_, '_>, has_sequencer: bool, p: &PortOn<'_>) -> bool
@@ -153,35 +113,35 @@ fn is_no_request(m: MachineIn<'_, '_>, has_sequencer: bool, p: &PortOn<'_>) -> b
     has_sequencer && is_mandatory(p.buffer) && !is_built_in(BuiltInType::Request, Some(p.message))
 }
 
-fn judge_declaration(
+fn judge_declaration<'a>(
     first: Option<Broken>,
-    m: MachineIn<'_, '_>,
+    m: MachineIn<'_, 'a>,
     has_sequencer: bool,
-    d: Declared<'_>,
+    d: Declared<'a>,
 ) -> Option<Broken>
-    requires machine { IsMachineIn m }
-    requires sequencer { has_sequencer ≡ has_sequencer_of m.scopes.now.trees.now m.machine.now }
+    requires { has_sequencer ≡ has_sequencer_of m.scopes.now.trees.now m.machine.now }
     ensures { result ≡ first_after first (flat_map (wrong_port m.entry.scopes.now.trees.now m.entry.machine.now) (plan.port_in m.entry.scopes.now.trees.now m.entry.number m.entry.machine.now (declaration_of d.entry))) }
 {
-    match port_in(m, d) {
+    match port_in(m.scopes, m.number, m.machine, d) {
         None => first,
         Some(p) => told_if(
             first,
-            is_wrong_way(&p) || is_sent_nowhere(m, &p) || is_no_request(m, has_sequencer, &p),
+            is_wrong_way(&p)
+                || is_sent_nowhere(m.scopes, &p)
+                || is_no_request(m, has_sequencer, &p),
             p.machine,
             p.span,
         ),
     }
 }
 
-fn judge_declarations(
+fn judge_declarations<'a>(
     first: Option<Broken>,
-    m: MachineIn<'_, '_>,
+    m: MachineIn<'_, 'a>,
     has_sequencer: bool,
-    declarations: &[Declared<'_>],
+    declarations: &[Declared<'a>],
 ) -> Option<Broken>
-    requires machine { IsMachineIn m }
-    requires sequencer { has_sequencer ≡ has_sequencer_of m.scopes.now.trees.now m.machine.now }
+    requires { has_sequencer ≡ has_sequencer_of m.scopes.now.trees.now m.machine.now }
     ensures { result ≡ first_after first (flat_map (wrong_port m.entry.scopes.now.trees.now m.entry.machine.now) (flat_map (plan.port_in m.entry.scopes.now.trees.now m.entry.number m.entry.machine.now) (declarations_of declarations.now))) }
 {
     let mut found = first;

@@ -1,22 +1,33 @@
+//! A machine of a protocol, and the rules that each machine keeps or breaks alone.
 ghost use Rattle.std.specs.Prelude.{◌≡◌, Option, List, ℕ, IfOk};
-ghost use Rattle.slicc_ast.specs.declared.tree.item.Tree.{Tree as TreeRecord};
-ghost use Rattle.slicc_ast.specs.declared.tree.machine.Machine.{Machine as MachineRecord};
-ghost use Rattle.slicc_plan.specs.declared.broken.Broken.{Broken as BrokenRecord};
-ghost use Rattle.slicc_plan.specs.Machines.{in_each};
-ghost use Rattle.slicc_plan.specs.Order.{first_after};
-ghost use Rattle.declared_types.specs.Scopes.{scope_at};
+ghost use Rattle.slicc_ast.specs.declared.tree.item.Tree.{Tree};
+ghost use Rattle.slicc_ast.specs.declared.tree.machine.Machine.{Machine};
+ghost use Rattle.slicc_plan.specs.declared.broken.Broken.{Broken};
+ghost use Rattle.slicc_plan.specs.Prelude.{in_each, first_after};
+ghost use Rattle.declared_types.specs.Prelude.{scope_at};
 ghost use Rattle.machine_rules.specs.MachinesIn.{IsMachineIn, found_within};
 
-use crate::machine_in::MachineIn;
 use declared_types::{Scope, Scopes};
 use machine_table::kept_number;
 use ruby_base::NoMemory;
+use slicc_ast::tree::Machine;
 use slicc_plan::Broken;
 use std::alloc::Global;
 
+/// A machine of a protocol.
+#[derive(Clone, Copy)]
+pub struct MachineIn<'b, 'a> {
+    pub scopes: &'b Scopes<'a>,
+    /// The number of its scope.
+    pub scope: usize,
+    /// Its own number.
+    pub number: u16,
+    pub machine: &'a Machine,
+}
+
 /// A rule that each machine keeps or breaks, whatever the others are.
 pub trait MachineRule {
-    ghost found_in: { List TreeRecord → ℕ → MachineRecord → List BrokenRecord };
+    ghost found_in: { List Tree → ℕ → Machine → List Broken };
 
     /// The first broken rule, after a machine.
     fn judge(

@@ -3,35 +3,25 @@ ghost use Rattle.std.specs.Prelude.{◌≡◌, ◌++◌, IfOk, [], ◌∷◌};
 ghost use Rattle.std.specs.Option.{option_copied, option_map};
 ghost use Rattle.slicc_plan.specs.declared.built_in.BuiltInType.TheVariants.{Void};
 ghost use Rattle.slicc_plan.specs.Buffers.{listed};
-ghost use Rattle.slicc_plan.specs.Machines.{entry_structure, function_found, function_named, tbe_structure};
-ghost use Rattle.slicc_plan.specs.Order.{first_after};
-ghost use Rattle.slicc_plan.specs.StateFunctions.{alone, built_in_type, line_where, own_state, state_functions_in, taken_to_permit, taken_to_read, taken_to_write, told_at, unlike, wrong_state_functions};
-ghost use Rattle.declared_types.specs.Lent.{declaration_of};
+ghost use Rattle.slicc_plan.specs.Prelude.{entry_structure, function_found, function_named, tbe_structure, first_after, alone, line_where, own_state, state_functions_in, taken_to_permit, taken_to_read, taken_to_write, told_at, unlike, wrong_state_functions};
+ghost use Rattle.slicc_plan.specs.StateFunctions.{built_in_type};
+ghost use Rattle.declared_types.specs.Prelude.{declaration_of};
 ghost use Rattle.machine_rules.specs.MachinesIn.{IsMachineIn};
 ghost use Rattle.machine_rules.specs.WantedTypes.{wanted_of, wanted_present};
 
-use crate::lines::{entry_structure, tbe_structure};
-use crate::machine_in::MachineIn;
-use crate::rule::{MachineRule, first_in_machines};
+use crate::rule::{MachineIn, MachineRule, first_in_machines};
 use crate::wanted::{Wanted, are_wanted, is_wanted};
-use declared_types::{Declared, Scopes};
+use declaration_rules::earlier_at;
+use declared_types::{Declared, LineSort, Scopes, first_line};
 use ruby_base::NoMemory;
 use slicc_ast::tree::{Function, Structure};
-use slicc_plan::{Broken, BuiltInType, Rule, Span, earlier_broken};
+use slicc_plan::{Broken, BuiltInType, Rule, Span};
 use std::alloc::Global;
 
 fn told_at(first: Option<Broken>, number: u16, place: Span) -> Option<Broken>
     ensures { result ≡ first_after first (told_at number place ∷ []) }
 {
-    earlier_broken(
-        first,
-        Broken {
-            rule: Rule::StateFunctions,
-            machine: number,
-            place,
-            other: None,
-        },
-    )
+    earlier_at(first, Rule::StateFunctions, number, place)
 }
 
 // The function that is declared, where it is one that is looked at.
@@ -220,4 +210,20 @@ pub fn state_functions(
     ensures { IfOk result (λ found. found ≡ first_after first (wrong_state_functions scopes.now.trees.now)) }
 {
     first_in_machines::<StateFunctions>(alloc, first, scopes)
+}
+
+/// The structure of the lines of a machine's caches.
+pub fn entry_structure<'a>(m: MachineIn<'_, 'a>) -> Option<&'a Structure>
+    requires { IsMachineIn m }
+    ensures { option_copied result ≡ entry_structure m.entry.machine.now }
+{
+    first_line(LineSort::Entry, m.scopes.declarations(m.scope))
+}
+
+/// The structure of the lines of a machine's TBE tables.
+pub fn tbe_structure<'a>(m: MachineIn<'_, 'a>) -> Option<&'a Structure>
+    requires { IsMachineIn m }
+    ensures { option_copied result ≡ tbe_structure m.entry.machine.now }
+{
+    first_line(LineSort::Tbe, m.scopes.declarations(m.scope))
 }

@@ -1,13 +1,12 @@
 //! The types that functions of states should take and answer.
 ghost use Rattle.std.specs.Prelude.{◌≡◌};
 ghost use Rattle.std.specs.Option.{option_copied, option_map};
-ghost use Rattle.slicc_plan.specs.Declarations.{states as states_declaration};
-ghost use Rattle.slicc_plan.specs.StateFunctions.{are_wanted as are_wanted_of, is_own_states as is_own_states_of, is_own_structure as is_own_structure_of, is_wanted as is_wanted_of};
-ghost use Rattle.declared_types.specs.Lent.{type_of};
+ghost use Rattle.slicc_plan.specs.Prelude.{states as states_declaration, are_wanted, is_own_states, is_own_structure, is_wanted};
+ghost use Rattle.declared_types.specs.Prelude.{type_of};
 ghost use Rattle.machine_rules.specs.MachinesIn.{IsMachineIn};
 ghost use Rattle.machine_rules.specs.WantedTypes.{wanted_of, wanted_present};
 
-use crate::machine_in::MachineIn;
+use crate::rule::MachineIn;
 use declaration_rules::is_built_in;
 use declared_types::{KnownType, Scope};
 use machine_table::states;
@@ -26,7 +25,7 @@ pub enum Wanted<'a> {
 
 // Whether a type is the machine's own of a name.
 fn is_own_structure(text: &[u8], t: Option<KnownType<'_>>) -> bool
-    ensures { result ≡ is_own_structure_of text.now (option_map type_of t.entry) }
+    ensures { result ≡ is_own_structure text.now (option_map type_of t.entry) }
 {
     match t {
         Some(KnownType::Structure(Scope::Within(_), s)) => s.name.text.as_slice() == text,
@@ -35,7 +34,7 @@ fn is_own_structure(text: &[u8], t: Option<KnownType<'_>>) -> bool
 }
 
 fn is_own_states(states: Option<&States>, t: Option<KnownType<'_>>) -> bool
-    ensures { result ≡ is_own_states_of (option_map states_declaration (option_copied states.entry)) (option_map type_of t.entry) }
+    ensures { result ≡ is_own_states (option_map states_declaration (option_copied states.entry)) (option_map type_of t.entry) }
 {
     let Some(states) = states else {
         return false;
@@ -54,7 +53,7 @@ fn is_own_states(states: Option<&States>, t: Option<KnownType<'_>>) -> bool
 /// Whether a type is the one that is wanted.
 pub fn is_wanted(m: MachineIn<'_, '_>, wanted: Wanted<'_>, t: Option<KnownType<'_>>) -> bool
     requires { IsMachineIn m }
-    ensures { result ≡ is_wanted_of m.entry.machine.now (wanted_of wanted.entry) (option_map type_of t.entry) }
+    ensures { result ≡ is_wanted m.entry.machine.now (wanted_of wanted.entry) (option_map type_of t.entry) }
 {
     match wanted {
         Wanted::BuiltIn(b) => is_built_in(b, t),
@@ -66,7 +65,7 @@ pub fn is_wanted(m: MachineIn<'_, '_>, wanted: Wanted<'_>, t: Option<KnownType<'
 /// Whether formals have the types that are wanted, of which some may not be.
 pub fn are_wanted(m: MachineIn<'_, '_>, wanted: &[Option<Wanted<'_>>], formals: &[Formal]) -> bool
     requires { IsMachineIn m }
-    ensures { result ≡ are_wanted_of m.entry.scopes.now.trees.now m.entry.machine.now (wanted_present wanted.now) formals.now }
+    ensures { result ≡ are_wanted m.entry.scopes.now.trees.now m.entry.machine.now (wanted_present wanted.now) formals.now }
 {
     let [first, wanted @ ..] = wanted else {
         return formals.is_empty();

@@ -23,30 +23,18 @@ use Rattle.slicc_ast.specs.declared.tree.declaration.Structure.{Structure}
 use Rattle.slicc_ast.specs.declared.tree.item.Tree.{Tree}
 use Rattle.slicc_ast.specs.declared.tree.machine.Machine.{Machine}
 use Rattle.slicc_plan.specs.declared.built_in.BuiltInType.TheVariants.{Request}
-use Rattle.slicc_plan.specs.AllRules.{IsAccepted}
-use Rattle.slicc_plan.specs.Buffers.{BufferIn, buffer_in}
-use Rattle.slicc_plan.specs.Declarations.{Declaration, structure, states, parameter, object, Scope, within, global_declarations, is_external, machine_declarations, machines_of}
-use Rattle.slicc_plan.specs.FieldTypes.{FieldIn, field_of}
-use Rattle.slicc_plan.specs.InitialFields.{field_kind, field_kinds, initial_fields, initial_value, message_kinds}
-use Rattle.slicc_plan.specs.Limits.{is_sequencer, is_states}
-use Rattle.slicc_plan.specs.Machines.{is_directory_entry, is_entry, is_tbe, own_structures, structure_in}
-use Rattle.slicc_plan.specs.MachineValues.{values_of}
+use Rattle.slicc_plan.specs.Prelude.{IsAccepted, BufferIn, buffer_in, Declaration, states, parameter, object, Scope, within, global_declarations, is_external, machine_declarations, machines_of, FieldIn, field_kind, field_kinds, initial_fields, initial_value, message_kinds, is_sequencer, is_states, is_directory_entry, is_entry, is_tbe, own_structures, structure_in, values_of, attributes_of, buffer_place, buffer_setups, default_state, first_state, is_ordered, kinds_on, parameter_table, range_values, setup_in, setup_of, table_of_lines, table_setup, table_size, tables_from, values_from, symbols_of, buffer_of_place, buffer_symbol, line_number, machine_symbols, number_of_found, sequencer_in, table_of_sort, table_symbol, enumeration_symbols, field_of_type, field_symbol, field_symbols, request_symbol, structure_symbol, structure_symbols, line_structure, table_in, declared_structures, made_in, no_structure, own_default, scoped_declarations, structure_number, KnownType, built_in, enumerated, structured}
+use Rattle.slicc_plan.specs.Declarations.{structure}
+use Rattle.slicc_plan.specs.FieldTypes.{field_of}
 use Rattle.slicc_plan.specs.MessageTypes.{message_type}
-use Rattle.slicc_plan.specs.Setups.{attributes_of, buffer_place, buffer_setups, default_state, first_state, is_ordered, kinds_on, parameter_table, range_values, setup_in, setup_of, table_of_lines, table_setup, table_size, tables_from, values_from}
 use Rattle.slicc_plan.specs.Setups as plan
-use Rattle.slicc_plan.specs.SymbolsOf.{symbols_of}
-use Rattle.slicc_plan.specs.SymbolsOfMachines.{buffer_of_place, buffer_symbol, line_number, machine_symbols, number_of_found, sequencer_in, table_of_sort, table_symbol}
-use Rattle.slicc_plan.specs.SymbolsOfTypes.{enumeration_symbols, field_of_type, field_symbol, field_symbols, request_symbol, structure_symbol, structure_symbols}
-use Rattle.slicc_plan.specs.Tables.{line_structure, table_in}
-use Rattle.slicc_plan.specs.TypeNumbers.{declared_structures, made_in, no_structure, own_default, scoped_declarations, structure_number}
-use Rattle.slicc_plan.specs.Types.{KnownType, built_in, enumerated, structured}
 use Rattle.slicc_plan.proofs.Counted.{machine_has_numbers}
 use Rattle.slicc_plan.proofs.Machines.{symbols_at}
 use Rattle.slicc_plan.proofs.Messages.{IsDeclared, has_states, message_declared}
 use Rattle.slicc_plan.proofs.Reading.{reads_states}
 use Rattle.slicc_plan.proofs.There.{There, found_passes, get_right, in_machine, machine_there, there_found, there_later}
 use Rattle.slicc_plan.proofs.Types.{as_many, each_structure, states_stand, structure_stands}
-use Rattle.machine_setup.specs.BySymbols.{buffer_by, default_of, default_state_by, fields_at, fields_of, first_values, kinds_of, kinds_of_ranges, line_of, setup_by, table_by, tables_by, values_by, values_of_ranges}
+use Rattle.machine_setup.specs.Prelude.{buffer_by, default_of, default_state_by, fields_at, fields_of, first_values, kinds_of, kinds_of_ranges, line_of, setup_by, table_by, tables_by, values_by, values_of_ranges}
 
 -- What is read off the symbols of fields is read off the fields.
 module _ {X : Type 0} (trees : List Tree) (scope : Scope) (f : FieldSymbol → X) (g : FieldIn → X) (same : (text : List ℕ) (x : FieldIn) → f (field_of_type trees text x) ≡ g x) where

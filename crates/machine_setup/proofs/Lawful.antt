@@ -14,17 +14,11 @@ use Rattle.ruby_value.specs.declared.setup.Sizes.{Sizes}
 use Rattle.ruby_value.specs.declared.setup.TableSetup.{TableSetup}
 use Rattle.ruby_value.specs.declared.setup.TableSize.{TableSize}
 use Rattle.ruby_value.specs.declared.setup.TableSize.TheVariants as size
-use Rattle.ruby_value.specs.EqualKinds.{equal_kinds}
-use Rattle.ruby_value.specs.HasKinds.{has_kinds}
-use Rattle.ruby_value.specs.IsReference.{is_reference}
-use Rattle.ruby_value.specs.SameKinds.{same_kinds}
+use Rattle.ruby_value.specs.Prelude.{equal_kinds, has_kinds, is_reference, same_kinds, network_of}
 use Rattle.slicc_ast.specs.declared.tree.item.Tree.{Tree}
 use Rattle.slicc_ast.specs.declared.tree.machine.Machine.{Machine}
-use Rattle.slicc_plan.specs.Declarations.{machines_of}
-use Rattle.slicc_plan.specs.MessageTypes.{network_type, receivers_field}
-use Rattle.ruby_value.specs.NetworkOf.{network_of}
+use Rattle.slicc_plan.specs.Prelude.{machines_of, network_type, receivers_field, tables_of}
 use Rattle.slicc_plan.specs.Setups as plan
-use Rattle.slicc_plan.specs.Tables.{tables_of}
 use Rattle.ctl_face.specs.IsMachine as face
 
 -- Tables.

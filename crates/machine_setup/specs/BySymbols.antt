@@ -18,7 +18,7 @@ use Rattle.ruby_symbols.specs.declared.symbols.Symbols.{Symbols}
 use Rattle.ruby_symbols.specs.declared.types.EnumerationSymbol.{EnumerationSymbol}
 use Rattle.ruby_symbols.specs.declared.types.FieldSymbol.{FieldSymbol}
 use Rattle.ruby_symbols.specs.declared.types.StructureSymbol.{StructureSymbol}
-use Rattle.slicc_plan.specs.Setups.{table_size, values_from}
+use Rattle.slicc_plan.specs.Prelude.{table_size, values_from}
 
 -- Fields.
 

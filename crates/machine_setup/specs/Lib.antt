@@ -1,1 +1,2 @@
 pub mod BySymbols
+pub mod Prelude

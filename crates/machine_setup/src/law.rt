@@ -1,11 +1,10 @@
 //! What a machine is to its controllers is lawful.
 ghost use Rattle.std.specs.Prelude.{◌≡◌, ℕ, List, Some, slice_get};
-ghost use Rattle.ctl_face.specs.IsMachine.{IsMachine};
-ghost use Rattle.ruby_value.specs.declared.setup.MachineSetup.{MachineSetup as SetupRecord};
-ghost use Rattle.ruby_value.specs.declared.setup.Sizes.{Sizes as SizesRecord};
-ghost use Rattle.slicc_ast.specs.declared.tree.item.Tree.{Tree as TreeRecord};
-ghost use Rattle.slicc_plan.specs.AllRules.{IsAccepted};
-ghost use Rattle.slicc_plan.specs.Setups.{AreSizesOf, setup_of};
+ghost use Rattle.ctl_face.specs.Prelude.{IsMachine};
+ghost use Rattle.ruby_value.specs.declared.setup.MachineSetup.{MachineSetup};
+ghost use Rattle.ruby_value.specs.declared.setup.Sizes.{Sizes};
+ghost use Rattle.slicc_ast.specs.declared.tree.item.Tree.{Tree};
+ghost use Rattle.slicc_plan.specs.Prelude.{IsAccepted, AreSizesOf, setup_of};
 
 use slicc_plan::{
     initial_fields_have_their_kinds, network_has_one_type, networks_are_numbered,
@@ -17,7 +16,7 @@ use slicc_plan::{
 /// tables have room within the limits and begin with fields of their kinds, its networks are numbered, no field is a reference,
 /// and the messages on one network are alike.
 pub fn setup_is_machine()
-    ensures { (trees : List TreeRecord) (number : ℕ) (sizes : SizesRecord) (setup : SetupRecord) → IsAccepted trees
+    ensures { (trees : List Tree) (number : ℕ) (sizes : Sizes) (setup : MachineSetup) → IsAccepted trees
         → AreSizesOf trees sizes → setup_of trees number sizes ≡ Some setup → IsMachine setup }
 {
     setup_has_its_parts();

@@ -7,10 +7,9 @@ use Rattle.slicc_ast.specs.declared.tree.name.Name.{Name}
 use Rattle.slicc_ast.specs.declared.tree.machine.Machine.{Machine}
 use Rattle.slicc_ast.specs.declared.tree.machine.Transition.{Transition}
 use Rattle.slicc_plan.specs.declared.row.Written.{Written}
-use Rattle.slicc_plan.specs.Declarations.{Declaration, is_named}
-use Rattle.slicc_plan.specs.Limits.{event_members, state_members}
-use Rattle.slicc_plan.specs.Machines.{each_once, includes, names_in, number_among, numbers_among, transitions_of, with_number, written, written_of}
-use Rattle.pair_table.specs.PairPlaces.{IsAmong}
+use Rattle.slicc_plan.specs.Prelude.{Declaration, is_named, event_members, state_members, each_once, includes, number_among, numbers_among, transitions_of, with_number, written, written_of}
+use Rattle.slicc_plan.specs.Machines.{names_in}
+use Rattle.pair_table.specs.Prelude.{IsAmong}
 
 numbers_below : (ds : List Declaration) (ns : List Name) → All (λ k. k < length ds) (numbers_among ds ns)
 numbers_below ds [] = All-nil (λ k. k < length ds)

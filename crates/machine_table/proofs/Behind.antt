@@ -1,8 +1,7 @@
 -- What is sought among a machine's declarations is none of its parameters.
 use Rattle.std.proofs.Common.{◌≡◌, List, [], ◌∷◌, ◌++◌, map, find, filter, refl}
 use Rattle.slicc_ast.specs.declared.tree.machine.Parameter.{Parameter}
-use Rattle.slicc_plan.specs.Declarations.{Declaration, parameter}
-use Rattle.slicc_plan.specs.Limits.{is_action, is_events, is_states}
+use Rattle.slicc_plan.specs.Prelude.{Declaration, parameter, is_action, is_events, is_states}
 
 pub states_behind : (ps : List Parameter) (ds : List Declaration) → find is_states (map parameter ps ++ ds) ≡ find is_states ds
 states_behind [] ds = refl

@@ -1,3 +1,4 @@
+mod AllPorts
 mod Behind
 mod NumbersOfNames
 mod AmongParts

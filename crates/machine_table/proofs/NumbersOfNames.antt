@@ -13,16 +13,15 @@ use Rattle.std.proofs.lemmas.Grind.{common_steps, flat_map-append}
 use Rattle.slicc_ast.specs.declared.tree.name.Name.{Name}
 use Rattle.slicc_ast.specs.declared.tree.machine.Action.{Action}
 use Rattle.slicc_ast.specs.declared.tree.machine.Decl.{Decl}
-use Rattle.slicc_ast.specs.declared.tree.machine.Decl.TheVariants.{States as StatesDecl, Enumeration as EnumerationDecl, Structure as StructureDecl, OutPort as OutPortDecl, InPort as InPortDecl, Action as ActionDecl, Transition as TransitionDecl, Function as FunctionDecl, Object as ObjectDecl}
+use Rattle.slicc_ast.specs.declared.tree.machine.Decl.TheVariants.{States, Enumeration, Structure, OutPort, InPort, Action as ActionDecl, Transition as TransitionDecl, Function, Object}
 use Rattle.slicc_ast.specs.declared.tree.machine.Machine.{Machine}
 use Rattle.slicc_ast.specs.declared.tree.machine.Transition.{Transition}
-use Rattle.slicc_plan.specs.Limits.{event_members, is_action, state_members}
-use Rattle.slicc_plan.specs.Machines.{actions_of, each_once, names_in, next_number, transitions_of, written, written_of}
+use Rattle.slicc_plan.specs.Prelude.{event_members, is_action, state_members, actions_of, each_once, next_number, transitions_of, written, written_of, Declaration, action, is_named, is_text, name_of, named_declarations}
+use Rattle.slicc_plan.specs.Machines.{names_in}
 use Rattle.machine_table.specs.declared.numbers.PartNumbers.{PartNumbers}
 use Rattle.slicc_plan.specs.Buffers.{listed}
-use Rattle.slicc_plan.specs.Declarations.{Declaration, action, is_named, is_text, name_of, named_declarations}
-use Rattle.ruby_base.specs.Numbering.{is_name, number_among, with_name}
-use Rattle.machine_table.specs.Found.{Finding, actions_among, found_by, found_in, found_next, found_with, written_with}
+use Rattle.ruby_base.specs.Prelude.{is_name, number_among, with_name}
+use Rattle.machine_table.specs.Prelude.{Finding, actions_among, found_by, found_in, found_next, found_with, written_with}
 
 listed_option : {Y : Type 0} (o : Option Y) → cons_option o [] ≡ listed o
 listed_option None = refl
@@ -137,15 +136,15 @@ actions_step ds i d below is =
     ∙ ap (λ xs. actions_among (take i ds) ++ filter is_action xs) (append-nil (named_declarations d))
 
 no_action : (d : Decl) → ((a : Action) → d ≡ ActionDecl a → ⊥) → filter is_action (named_declarations d) ≡ []
-no_action (StatesDecl s) h = refl
-no_action (EnumerationDecl e) h = refl
-no_action (StructureDecl s) h = refl
-no_action (OutPortDecl p) h = refl
-no_action (InPortDecl p) h = refl
+no_action (States s) h = refl
+no_action (Enumeration e) h = refl
+no_action (Structure s) h = refl
+no_action (OutPort p) h = refl
+no_action (InPort p) h = refl
 no_action (ActionDecl a) h = absurd (h a refl)
 no_action (TransitionDecl t) h = refl
-no_action (FunctionDecl f) h = refl
-no_action (ObjectDecl o) h = refl
+no_action (Function f) h = refl
+no_action (Object o) h = refl
 
 pub action_skipped : (ds : List Decl) (i : ℕ) (d : Decl) → i < length ds → d ≡ slice_index_or ds i d → ((a : Action) → d ≡ ActionDecl a → ⊥) → actions_among (take (i + 1) ds) ≡ actions_among (take i ds)
 action_skipped ds i d below at none =

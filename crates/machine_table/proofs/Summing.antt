@@ -8,13 +8,9 @@ use Rattle.slicc_ast.specs.declared.tree.machine.Machine.{Machine}
 use Rattle.slicc_plan.specs.declared.row.Counts.{Counts}
 use Rattle.slicc_plan.specs.declared.row.Row.{Row}
 use Rattle.slicc_plan.specs.Buffers.{listed}
-use Rattle.slicc_plan.specs.Counts.{is_written, numbers_below, pairs_of}
-use Rattle.slicc_plan.specs.Limits.{event_members, state_members}
-use Rattle.slicc_plan.specs.Machines.{rows}
+use Rattle.slicc_plan.specs.Prelude.{is_written, numbers_below, pairs_of, event_members, state_members, rows}
 use Rattle.machine_table.specs.declared.table.Tables.{Tables}
-use Rattle.machine_table.specs.Answers.{answer}
-use Rattle.machine_table.specs.Sums.{answered_in, sums_of, sums_with}
-use Rattle.machine_table.specs.TablesOf.{rows_of_found}
+use Rattle.machine_table.specs.Prelude.{answer, answered_in, sums_of, sums_with, rows_of_found}
 
 one_sum : {X : Type 0} (f : X → ℕ) (xs : List X) (x : X) → sum_by f (xs ++ x ∷ []) ≡ sum_by f xs + f x
 one_sum f xs x =

@@ -6,12 +6,11 @@ use Rattle.std.proofs.lemmas.Grind.{common_steps}
 use Rattle.slicc_ast.specs.declared.tree.machine.Machine.{Machine}
 use Rattle.slicc_plan.specs.declared.broken.Broken.{Broken}
 use Rattle.slicc_plan.specs.Buffers.{listed}
-use Rattle.slicc_plan.specs.Machines.{in_each_from, rows}
-use Rattle.slicc_plan.specs.Order.{first_after}
+use Rattle.slicc_plan.specs.Prelude.{in_each_from, rows, first_after}
 use Rattle.slicc_plan.proofs.Firsts.{first_after-append}
 use Rattle.pair_table.specs.declared.table.Table.{Table}
-use Rattle.pair_table.specs.Tables.{answer_of}
-use Rattle.machine_table.specs.TablesOf.{rows_of_found}
+use Rattle.pair_table.specs.Prelude.{answer_of}
+use Rattle.machine_table.specs.Prelude.{rows_of_found}
 
 both_empty : {X : Type 0} (xs ys : List X) → xs ++ ys ≡ [] → (xs ≡ []) × (ys ≡ [])
 both_empty [] ys h = (refl, h)

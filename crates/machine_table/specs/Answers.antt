@@ -2,9 +2,8 @@
 use Rattle.std.specs.Prelude.{ℕ, ◌≡◌, List, [], option_and_then, slice_get}
 use Rattle.slicc_ast.specs.declared.tree.machine.Machine.{Machine}
 use Rattle.slicc_plan.specs.Buffers.{listed}
-use Rattle.slicc_plan.specs.Machines.{in_each_from}
-use Rattle.slicc_plan.specs.TwoTransitions.{shared_pairs_in}
-use Rattle.pair_table.specs.Tables.{answer_of}
+use Rattle.slicc_plan.specs.Prelude.{in_each_from, shared_pairs_in}
+use Rattle.pair_table.specs.Prelude.{answer_of}
 use Rattle.machine_table.specs.declared.table.Tables.{Tables}
 use Rattle.machine_table.specs.TablesOf.{Answering, rows_of_found}
 

@@ -2,8 +2,7 @@
 use Rattle.std.specs.Prelude.{◌≡◌, Result, Ok, Err, Option, List, [], unwrap_or}
 use Rattle.slicc_ast.specs.declared.tree.item.Tree.{Tree}
 use Rattle.slicc_plan.specs.declared.broken.Broken.{Broken}
-use Rattle.slicc_plan.specs.Order.{IsFirstBroken}
-use Rattle.slicc_plan.specs.TwoTransitions.{shared_pairs}
+use Rattle.slicc_plan.specs.Prelude.{IsFirstBroken, shared_pairs}
 use Rattle.machine_table.specs.declared.table.TableFault.{TableFault}
 use Rattle.machine_table.specs.declared.table.TableFault.TheVariants.{Duplicate, NoMemory}
 use Rattle.machine_table.specs.declared.table.Tables.{Tables}

@@ -5,12 +5,11 @@ use Rattle.std.specs.Option.{option_or}
 use Rattle.std.specs.Str.{bytes_eq}
 use Rattle.slicc_ast.specs.declared.tree.name.Name.{Name}
 use Rattle.slicc_ast.specs.declared.tree.machine.Transition.{Transition}
-use Rattle.ruby_base.specs.Numbering.{number_among}
+use Rattle.ruby_base.specs.Prelude.{number_among}
 use Rattle.slicc_plan.specs.declared.row.Written.{Written}
 use Rattle.slicc_ast.specs.declared.tree.machine.Decl.{Decl}
-use Rattle.slicc_plan.specs.Declarations.{Declaration, is_named, named_declarations}
-use Rattle.slicc_plan.specs.Limits.{is_action}
-use Rattle.slicc_plan.specs.Machines.{each_once, names_in}
+use Rattle.slicc_plan.specs.Prelude.{Declaration, is_named, named_declarations, is_action, each_once}
+use Rattle.slicc_plan.specs.Machines.{names_in}
 use Rattle.machine_table.specs.declared.by_name.Numbers.{Numbers}
 use Rattle.machine_table.specs.declared.numbers.PartNumbers.{PartNumbers}
 

@@ -1,5 +1,7 @@
 pub mod Answers
 pub mod Built
 pub mod Found
+pub mod Ports
 pub mod Sums
 pub mod TablesOf
+pub mod Prelude

@@ -2,8 +2,7 @@
 use Rattle.std.specs.Prelude.{ℕ, ◌+◌, List, count_by, is_some, length, sum_by}
 use Rattle.slicc_ast.specs.declared.tree.machine.Machine.{Machine}
 use Rattle.slicc_plan.specs.declared.row.Counts.{Counts}
-use Rattle.slicc_plan.specs.Counts.{numbers_below, pairs_of}
-use Rattle.slicc_plan.specs.Limits.{event_members, state_members}
+use Rattle.slicc_plan.specs.Prelude.{numbers_below, pairs_of, event_members, state_members}
 use Rattle.machine_table.specs.declared.table.Tables.{Tables}
 use Rattle.machine_table.specs.Answers.{answer}
 

@@ -5,8 +5,7 @@ use Rattle.slicc_ast.specs.declared.tree.item.Tree.{Tree}
 use Rattle.slicc_ast.specs.declared.tree.machine.Machine.{Machine}
 use Rattle.slicc_plan.specs.declared.row.Row.{Row}
 use Rattle.slicc_plan.specs.Buffers.{listed}
-use Rattle.slicc_plan.specs.Declarations.{item_declarations, machine_in, machines_of}
-use Rattle.slicc_plan.specs.Machines.{rows}
+use Rattle.slicc_plan.specs.Prelude.{item_declarations, machine_in, machines_of, rows}
 
 -- what tables answer
 abbrev pub Answering : Type 0

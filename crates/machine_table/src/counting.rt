@@ -1,15 +1,11 @@
 //! How many machines, states, events and pairs a protocol has.
 ghost use Rattle.std.specs.Prelude.{◌≡◌, ◌≤◌, ◌^◌, ◌+◌, ◌*◌, ℕ, cond, is_some, map, slice_get, sum_by, IfOk};
 ghost use Rattle.slicc_plan.specs.Buffers.{listed};
-ghost use Rattle.slicc_plan.specs.Counts.{counts_of, numbers_below};
-ghost use Rattle.slicc_plan.specs.Machines.{rows};
-ghost use Rattle.machine_table.specs.Answers.{answer};
-ghost use Rattle.machine_table.specs.Sums.{answered_in, sums_of, sums_with};
-ghost use Rattle.machine_table.specs.TablesOf.{AreTablesOf, rows_of_found};
+ghost use Rattle.slicc_plan.specs.Prelude.{counts_of, numbers_below, rows};
+ghost use Rattle.machine_table.specs.Prelude.{answer, answered_in, sums_of, sums_with, AreTablesOf, rows_of_found};
 
 use crate::by_name::kept_number;
-use crate::machine_list::machines;
-use crate::parts::{event_count, state_count};
+use crate::parts::{event_count, machines, state_count};
 use crate::table::Tables;
 use ruby_base::NoMemory;
 use slicc_ast::tree::{Machine, Tree};

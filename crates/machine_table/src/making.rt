@@ -1,16 +1,11 @@
 //! The tables of a protocol, made from its trees.
 ghost use Rattle.std.specs.Prelude.{◌≡◌, [], None, map, IfOk};
-ghost use Rattle.slicc_plan.specs.Machines.{in_each_from, written_of};
-ghost use Rattle.slicc_plan.specs.Order.{first_after};
-ghost use Rattle.slicc_plan.specs.TwoTransitions.{shared_pairs, shared_pairs_in};
-ghost use Rattle.pair_table.specs.Tables.{IsTableOf};
-ghost use Rattle.machine_table.specs.Answers.{AreRightUnlessShared, answer};
-ghost use Rattle.machine_table.specs.TablesOf.{AreTablesOf};
-ghost use Rattle.machine_table.specs.Built.{IsBuilt};
+ghost use Rattle.slicc_plan.specs.Prelude.{in_each_from, written_of, first_after, shared_pairs, shared_pairs_in};
+ghost use Rattle.pair_table.specs.Prelude.{IsTableOf};
+ghost use Rattle.machine_table.specs.Prelude.{AreRightUnlessShared, answer, AreTablesOf, IsBuilt};
 
 use crate::by_name::kept_number;
-use crate::machine_list::machines;
-use crate::parts::{event_count, state_count};
+use crate::parts::{event_count, machines, state_count};
 use crate::table::{TableFault, Tables};
 use crate::written::written_transitions;
 use pair_table::{Table, table_of};

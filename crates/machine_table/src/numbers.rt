@@ -1,8 +1,6 @@
 //! The numbers of a machine's states, events and actions by their names.
 ghost use Rattle.std.specs.Prelude.{◌≡◌, Some, map, IfOk};
-ghost use Rattle.slicc_plan.specs.Declarations.{Declaration, name_of, state, symbol};
-ghost use Rattle.slicc_plan.specs.Limits.{event_members, state_members};
-ghost use Rattle.slicc_plan.specs.Machines.{actions_of};
+ghost use Rattle.slicc_plan.specs.Prelude.{Declaration, name_of, state, symbol, event_members, state_members, actions_of};
 ghost use Rattle.machine_table.specs.Found.{AreNumbersOf};
 
 use crate::by_name::Numbers;

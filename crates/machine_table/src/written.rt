@@ -1,8 +1,9 @@
 //! The written transitions of a machine, their names as numbers.
 ghost use Rattle.std.specs.Prelude.{◌≡◌, ◌++◌, filter_map, map, IfOk, OnOk};
 ghost use Rattle.slicc_plan.specs.Buffers.{listed};
-ghost use Rattle.slicc_plan.specs.Machines.{each_once, includes, names_in, transitions_of, with_number, written_of};
-ghost use Rattle.machine_table.specs.Found.{found_by, found_name, found_next, written_with};
+ghost use Rattle.slicc_plan.specs.Machines.{names_in};
+ghost use Rattle.slicc_plan.specs.Prelude.{each_once, includes, transitions_of, with_number, written_of};
+ghost use Rattle.machine_table.specs.Prelude.{found_by, found_name, found_next, written_with};
 
 use crate::by_name::Numbers;
 use crate::numbers::{PartNumbers, part_numbers};

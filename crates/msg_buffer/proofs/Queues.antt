@@ -9,11 +9,10 @@ use Rattle.std.specs.List.Sorted.{IsPartitionPoint, IsPartitionedBy}
 use Rattle.std.specs.List.{All, AllPairs, filter, insert, slice_get}
 use Rattle.ruby_value.specs.declared.message.Message.{Message}
 use Rattle.ruby_value.specs.declared.message.MsgNo.{MsgNo}
-use Rattle.ruby_value.specs.Front.{least, earlier}
-use Rattle.ruby_value.specs.NumberBefore.{same_number}
+use Rattle.ruby_value.specs.Prelude.{least, earlier, same_number}
 use Rattle.ruby_value.proofs.Fronts.{front-is}
 use Rattle.ruby_value.proofs.Ordered.{AllPairs-head, AllPairs-tail, AllPairs-insert}
-use Rattle.msg_buffer.specs.Queue.{ComesBefore, IsFront, IsNew, IsQueue, comes_before, first_where, front, is_after, is_ready, with_message, without_message}
+use Rattle.msg_buffer.specs.Prelude.{ComesBefore, IsFront, IsNew, IsQueue, comes_before, first_where, front, is_after, is_ready, with_message, without_message}
 use Rattle.msg_buffer.proofs.Placed.{IsPlace, filter-all, AllPairs-placed}
 
 -- the order of two messages

@@ -7,8 +7,7 @@ use Rattle.std.specs.List.{All, AllPairs, filter}
 use Rattle.ruby_value.specs.declared.message.Message.{Message}
 use Rattle.ruby_value.specs.declared.message.MsgNo.{MsgNo}
 use Rattle.ruby_value.specs.Front as general
-use Rattle.ruby_value.specs.Inserted.{inserted}
-use Rattle.ruby_value.specs.NumberBefore.{number_before, same_number}
+use Rattle.ruby_value.specs.Prelude.{inserted, number_before, same_number}
 
 -- the message has arrived
 abbrev pub is_ready : ℕ → Message → Bool

@@ -1,7 +1,7 @@
 ghost use Rattle.std.specs.Prelude.{◌≡◌, ◌<◌, ◌≤◌, ◌+◌, ◌↔◌, [], None, Some, length, count_by, IfOk, IfErr, IfSome, IsOk, IsSome, IsTrue, OnOk, OnErr, insert};
 ghost use Rattle.std.specs.Option.{option_copied};
 ghost use Rattle.std.specs.VecDeque.{deque_len, deque_capacity};
-ghost use Rattle.ruby_value.specs.declared.message.Message.{Message as MessageRecord};
+ghost use Rattle.ruby_value.specs.declared.message.Message.{Message};
 ghost use Rattle.msg_buffer.specs.Queue.{IsFront, IsNew, IsQueue, front, is_after, next_after, with_message, with_recycled, without_message};
 
 use crate::{Message, MsgNo, NoMemory};
@@ -24,12 +24,12 @@ impl Model for Buffer {
     ghost use Rattle.std.specs.Prelude.{List, ◌-◌};
     ghost use Rattle.std.specs.Coded.{coded_list};
     ghost use Rattle.std.specs.VecDeque.{deque_len, deque_capacity};
-    ghost use Rattle.ruby_value.specs.declared.message.Message.{Message as MessageRecord};
+    ghost use Rattle.ruby_value.specs.declared.message.Message.{Message};
     ghost use Rattle.ruby_value.specs.contracts.message.Message as message;
-    ghost use Rattle.ruby_value.specs.Roomy.{Roomy, roomy_code};
+    ghost use Rattle.ruby_value.specs.Prelude.{Roomy, roomy_code};
     ghost use Rattle.msg_buffer.specs.Queue.{IsQueue};
 
-    ghost Value = { Roomy (List MessageRecord) };
+    ghost Value = { Roomy (List Message) };
 
     ghost coded = { roomy_code (coded_list message.the_row.coded) };
 
@@ -179,7 +179,7 @@ impl Buffer {
 
     /// How many of the messages were recycled at any time.
     pub fn count_recycled(&self) -> usize
-        ensures { result ≡ count_by (λ (m : MessageRecord). m.recycled) self.now.kept }
+        ensures { result ≡ count_by (λ (m : Message). m.recycled) self.now.kept }
     {
         self.queue.iter().filter(|m| m.recycled).count()
     }

@@ -4,11 +4,8 @@ use Rattle.std.proofs.lemmas.List.{append-nil, append_assoc}
 use Rattle.std.proofs.lemmas.Option.{same_Some}
 use Rattle.run_journal.specs.declared.entry.Entry.{Entry}
 use Rattle.run_journal.specs.declared.event.Event.{Event}
-use Rattle.protocol_runs.specs.Alone.{IsAlone, IsAloneEvent}
-use Rattle.protocol_runs.specs.RunRules.{Rules}
-use Rattle.protocol_runs.specs.Run.{IsRun, Ran}
-use Rattle.protocol_runs.specs.World.{World}
-use Rattle.one_worker.specs.Adds.{AddsAlone}
+use Rattle.protocol_runs.specs.Prelude.{IsAlone, IsAloneEvent, Rules, IsRun, Ran, World}
+use Rattle.one_worker.specs.Prelude.{AddsAlone}
 
 not_nil : {A : Type 0} (before after : List A) (y : A) → [] ≡ before ++ y ∷ after → ⊥
 not_nil [] after y h = absurd (cc h)

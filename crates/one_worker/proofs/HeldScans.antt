@@ -6,43 +6,25 @@ use Rattle.ruby_value.specs.declared.setup.MachineSetup.{MachineSetup}
 use Rattle.run_journal.specs.declared.entry.End.TheVariants as end
 use Rattle.run_journal.specs.declared.entry.FireNote.{FireNote}
 use Rattle.run_journal.specs.declared.entry.StopAt.{StopAt}
-use Rattle.protocol_runs.specs.Change.{Filled, Halted, Idled}
-use Rattle.protocol_runs.specs.RunRules.{Fired, Idle, Scan}
-use Rattle.protocol_runs.specs.World.{World}
-use Rattle.ctl_face.specs.Acts.{Acts}
-use Rattle.ctl_face.specs.Again.{again}
-use Rattle.ctl_face.specs.Ctl.{Ctl}
+use Rattle.protocol_runs.specs.Prelude.{Filled, Halted, Idled, Fired, Idle, Scan, World, IsSetting, FitsRun, actor_of, setup_of, Meaning, acts_told, Setting}
+use Rattle.ctl_face.specs.Prelude.{Acts, again, Ctl, Fits, last_cycle, Actor, LocalView, HasRoutes, scan_view}
 use Rattle.ctl_face.specs.declared.routes.Routes.{Routes}
-use Rattle.ctl_face.specs.Fits.{Fits, last_cycle}
-use Rattle.ctl_face.specs.LocalView.{Actor, LocalView}
-use Rattle.ctl_face.specs.RoutesFit.{HasRoutes}
-use Rattle.ctl_face.specs.ScanView.{scan_view}
 use Rattle.ctl_face.proofs.OwnBuffers.{fit_each}
-use Rattle.ctl_store.specs.declared.outcome.Outcome.{Outcome as Sealed}
-use Rattle.ctl_store.specs.Kept.{machine_of, me_of}
-use Rattle.ctl_store.specs.Sealed.{IsOutcomeFor, IsOutcomeOf, note_of, outcome_acts, outcome_ctl}
-use Rattle.protocol_meaning.specs.Meaning.{meaning_of, outcome_of, scan_of}
-use Rattle.protocol_meaning.specs.Rounds.{outcome_of_round}
+use Rattle.ctl_store.specs.declared.outcome.Outcome.{Outcome}
+use Rattle.ctl_store.specs.Prelude.{machine_of, me_of, IsOutcomeFor, IsOutcomeOf, note_of, outcome_acts, outcome_ctl}
+use Rattle.protocol_meaning.specs.Prelude.{meaning_of, outcome_of, scan_of, outcome_of_round}
 use Rattle.protocol_meaning.proofs.Fired.{fired_same}
 use Rattle.protocol_meaning.proofs.Rounds.{round_told}
-use Rattle.protocol_runs.specs.IsSetting.{IsSetting}
-use Rattle.protocol_runs.specs.Kept.{FitsRun}
-use Rattle.protocol_runs.specs.Machines.{actor_of, setup_of}
-use Rattle.protocol_runs.specs.Meaning.{Meaning, acts_told}
-use Rattle.protocol_runs.specs.Setting.{Setting}
 use Rattle.protocol_runs.proofs.Controllers.{IsOne, and-some, controller-is, one-of}
 use Rattle.protocol_runs.proofs.Scans as scans
-use Rattle.body_meaning.specs.declared.round.RoundEnd.{RoundEnd}
-use Rattle.body_meaning.specs.declared.round.RoundEnd.TheVariants as round
-use Rattle.body_meaning.specs.Round.{IsRoundOf}
-use Rattle.body_meaning.specs.Scan.{left_idle}
-use Rattle.sequencer.specs.Drive.{Drive}
-use Rattle.sequencer.specs.Seats.{Seat}
-use Rattle.world_state.specs.Ended.{rested}
-use Rattle.world_events.specs.declared.held.Held.{Held}
-use Rattle.world_events.specs.Held.{Holds, IsScanEnded, IsScanFired, ctl_in}
-use Rattle.one_worker.specs.Scanned.{begun}
-use Rattle.world_events.specs.Worlds.{IsWorldOf, WorldView, rules_in, setting_in}
+use Rattle.body_meaning.specs.declared.frame.RoundEnd.{RoundEnd}
+use Rattle.body_meaning.specs.declared.frame.RoundEnd.TheVariants as round
+use Rattle.body_meaning.specs.Prelude.{IsRoundOf, left_idle}
+use Rattle.sequencer.specs.Prelude.{Drive, Seat}
+use Rattle.world_state.specs.Prelude.{rested}
+use Rattle.world_events.specs.declared.world.Held.{Held}
+use Rattle.world_events.specs.Prelude.{Holds, IsScanEnded, IsScanFired, ctl_in, IsWorldOf, WorldView, rules_in, setting_in}
+use Rattle.one_worker.specs.Prelude.{begun}
 
 -- the controller of a scan that rests
 rests : (before after : LocalView) (b : Bool) → after.acts.again ≡ b → (left_idle before after).ctl ≡ rested b before.now before.ctl
@@ -114,7 +96,7 @@ module _ {D : Type 0} (drive : D → List Seat → ℕ → Drive D) (least : D �
         (ap (λ (u : LocalView). u.ctl.fired) begins ∙ sym holds.fired)
         ∙ round_told (scan_of v.trees h.machine h.limit h.fired before) e after before does
 
-    pub fired-is : (note : FireNote) (o : Sealed) → e ≡ round.Fired note → IsOutcomeOf after note o → IsScanFired drive v h o
+    pub fired-is : (note : FireNote) (o : Outcome) → e ≡ round.Fired note → IsOutcomeOf after note o → IsScanFired drive v h o
     fired-is note o is outcome =
         let does_fire : IsRoundOf (scan_of v.trees h.machine h.limit h.fired before) (Ok (round.Fired note)) after before =
         subst (λ (x : RoundEnd). IsRoundOf (scan_of v.trees h.machine h.limit h.fired before) (Ok x) after before) is does in

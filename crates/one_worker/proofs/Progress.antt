@@ -7,16 +7,11 @@ use Rattle.run_journal.specs.declared.entry.Entry.{Entry}
 use Rattle.run_journal.specs.declared.event.Event.{Event}
 use Rattle.run_journal.specs.declared.event.Event.TheVariants.{Take, Fire, Done, Release, Turn}
 use Rattle.run_journal.specs.declared.verdict.Verdict.{Verdict}
-use Rattle.protocol_runs.specs.Change.{Change, Closes, EndedBy, FiredBy, Move, Moves, Released, Taken, Turns}
-use Rattle.protocol_runs.specs.Outcome.{ContinuesAt, EndsWith, IsOutcome, StopsAt}
-use Rattle.protocol_runs.specs.RunRules.{Rules}
-use Rattle.protocol_runs.specs.Run.{IsRun, Ran}
-use Rattle.protocol_runs.specs.Step.{Moved, Stepped, step, with_moved}
-use Rattle.protocol_runs.specs.World.{Place, World}
+use Rattle.protocol_runs.specs.Prelude.{Change, Closes, EndedBy, FiredBy, Move, Moves, Released, Taken, Turns, ContinuesAt, EndsWith, IsOutcome, StopsAt, Rules, IsRun, Ran, Moved, Stepped, step, with_moved, Place, World}
 use Rattle.protocol_runs.proofs.Outcomes.{turn-outcome}
 use Rattle.protocol_runs.proofs.Runs.{headed, rest-path, with_step}
 use Rattle.protocol_runs.proofs.Steps.{step-changes, step-running}
-use Rattle.one_worker.specs.Waking.{Finishes, Stays, cycles_left, is_unfinished, unfinished}
+use Rattle.one_worker.specs.Prelude.{Finishes, Stays, cycles_left, is_unfinished, unfinished}
 use Rattle.one_worker.proofs.Frames.{count-fewer, count-same, set-frame}
 use Rattle.world_events.proofs.Holders.{deliveries-aside}
 

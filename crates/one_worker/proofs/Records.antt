@@ -4,23 +4,15 @@ use Rattle.slicc_ast.specs.declared.tree.item.Tree.{Tree}
 use Rattle.ruby_value.specs.declared.message.Message.{Message}
 use Rattle.run_journal.specs.declared.entry.Entry.{Entry}
 use Rattle.run_journal.specs.declared.event.Event.{Event}
-use Rattle.run_journal.specs.AreFinals.{AreFinals}
-use Rattle.run_journal.specs.Tally.{tally}
-use Rattle.protocol_runs.specs.Account.{account}
-use Rattle.protocol_runs.specs.Alone.{IsAlone}
-use Rattle.protocol_runs.specs.RunRules.{Rules}
-use Rattle.protocol_runs.specs.Run.{IsRun}
-use Rattle.protocol_runs.specs.World.{World}
+use Rattle.run_journal.specs.Prelude.{AreFinals, tally}
+use Rattle.protocol_runs.specs.Prelude.{account, IsAlone, Rules, IsRun, World, rules}
 use Rattle.ruby_topology.specs.declared.topology.Topology.{Topology}
-use Rattle.ctl_face.specs.Ctl.{Ctl}
-use Rattle.protocol_meaning.specs.Meaning.{meaning_of}
-use Rattle.protocol_meaning.specs.Setting.{setting_of}
-use Rattle.protocol_runs.specs.Rules.{rules}
-use Rattle.sequencer.specs.Drive.{Drive}
-use Rattle.sequencer.specs.Seats.{Seat}
+use Rattle.ctl_face.specs.Prelude.{Ctl}
+use Rattle.protocol_meaning.specs.Prelude.{meaning_of, setting_of}
+use Rattle.sequencer.specs.Prelude.{Drive, Seat}
 use Rattle.protocol_meaning.specs.declared.record.RunRecord.{RunRecord}
 use Rattle.protocol_meaning.specs.Records as records
-use Rattle.world_events.specs.Worlds.{IsWorldOf, WorldView, rules_in}
+use Rattle.world_events.specs.Prelude.{IsWorldOf, WorldView, rules_in}
 
 module _ {D : Type 0} (drive : D → List Seat → ℕ → Drive D) where
   -- the record is of the run that the world is of

@@ -8,24 +8,15 @@ use Rattle.ruby_value.specs.declared.message.Message.{Message}
 use Rattle.run_journal.specs.declared.event.Event.{Event}
 use Rattle.run_journal.specs.declared.event.Event.TheVariants.{Done, Fire, Take, Turn}
 use Rattle.run_journal.specs.declared.verdict.Verdict.{Verdict}
-use Rattle.protocol_runs.specs.Alone.{IsAlone, IsAloneEvent, IsNextTake}
-use Rattle.protocol_runs.specs.RunRules.{Rules}
-use Rattle.protocol_runs.specs.Run.{IsRun, Ran, run}
-use Rattle.protocol_runs.specs.Step.{Stepped, step}
-use Rattle.protocol_runs.specs.World.{Place, World, is_free}
-use Rattle.ctl_face.specs.Ctl.{Ctl}
+use Rattle.protocol_runs.specs.Prelude.{IsAlone, IsAloneEvent, IsNextTake, Rules, IsRun, Ran, run, Stepped, step, Place, World, is_free, rules}
+use Rattle.ctl_face.specs.Prelude.{Ctl}
 use Rattle.ruby_topology.specs.declared.topology.Topology.{Topology}
-use Rattle.protocol_meaning.specs.Meaning.{meaning_of}
-use Rattle.protocol_meaning.specs.Setting.{setting_of}
-use Rattle.protocol_runs.specs.Rules.{rules}
-use Rattle.sequencer.specs.Drive.{Drive}
-use Rattle.sequencer.specs.Seats.{Seat}
-use Rattle.world_events.specs.declared.held.Held.{Held}
-use Rattle.world_events.specs.declared.limits.RunLimits.{RunLimits}
-use Rattle.one_worker.specs.Adds.{AddsAlone, HasAddedAlone}
-use Rattle.world_events.specs.Held.{Holds, ctl_in}
-use Rattle.one_worker.specs.Waking.{AreWorlds, Finishes, IsBetween, IsNext, Stays, cycles_left, unfinished}
-use Rattle.world_events.specs.Worlds.{CanTake, CanTurn, HasAdded, InWorld, IsNobodyHeld, IsWorldOf, WorldView, rules_in}
+use Rattle.protocol_meaning.specs.Prelude.{meaning_of, setting_of}
+use Rattle.sequencer.specs.Prelude.{Drive, Seat}
+use Rattle.world_events.specs.declared.world.Held.{Held}
+use Rattle.world_events.specs.declared.world.RunLimits.{RunLimits}
+use Rattle.one_worker.specs.Prelude.{AddsAlone, HasAddedAlone, AreWorlds, Finishes, IsBetween, IsNext, Stays, cycles_left, unfinished}
+use Rattle.world_events.specs.Prelude.{Holds, ctl_in, CanTake, CanTurn, HasAdded, InWorld, IsNobodyHeld, IsWorldOf, WorldView, rules_in}
 use Rattle.one_worker.proofs.Adds.{adds-all, adds-none, adds-one, adds-then, same-world}
 use Rattle.one_worker.proofs.Progress.{last-step, stays, step-finishes, step-stays, turn-left}
 

@@ -4,13 +4,9 @@
 use Rattle.std.specs.Prelude.{◌≡◌, ◌++◌, ◌∷◌, ℕ, List}
 use Rattle.run_journal.specs.declared.entry.Entry.{Entry}
 use Rattle.run_journal.specs.declared.event.Event.{Event}
-use Rattle.protocol_runs.specs.Alone.{IsAloneEvent}
-use Rattle.protocol_runs.specs.RunRules.{Rules}
-use Rattle.protocol_runs.specs.Run.{IsRun}
-use Rattle.protocol_runs.specs.World.{World}
-use Rattle.world_events.specs.Worlds.{WorldView, rules_in}
-use Rattle.sequencer.specs.Drive.{Drive}
-use Rattle.sequencer.specs.Seats.{Seat}
+use Rattle.protocol_runs.specs.Prelude.{IsAloneEvent, Rules, IsRun, World}
+use Rattle.world_events.specs.Prelude.{WorldView, rules_in}
+use Rattle.sequencer.specs.Prelude.{Drive, Seat}
 
 module _ {C M D : Type 0} (r : Rules C M D) where
   pub record AddsAlone (before after : List Event) : Type 0 where

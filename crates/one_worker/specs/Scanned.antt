@@ -1,15 +1,12 @@
 -- What a scan of a controller that is held has come to.
 use Rattle.std.specs.Prelude.{ℕ, List}
-use Rattle.ctl_face.specs.LocalView.{LocalView}
-use Rattle.ctl_face.specs.ScanView.{scan_view}
-use Rattle.ctl_store.specs.Kept.{machine_of, me_of}
-use Rattle.world_events.specs.declared.held.Held.{Held}
+use Rattle.ctl_face.specs.Prelude.{LocalView, scan_view}
+use Rattle.ctl_store.specs.Prelude.{machine_of, me_of}
+use Rattle.world_events.specs.declared.world.Held.{Held}
 use Rattle.one_worker.specs.declared.scanning.Scanned.{Scanned}
 use Rattle.one_worker.specs.declared.scanning.Scanned.TheVariants.{Fired, Ended}
-use Rattle.world_events.specs.Held.{IsScanEnded, IsScanFired, ctl_in}
-use Rattle.world_events.specs.Worlds.{WorldView}
-use Rattle.sequencer.specs.Drive.{Drive}
-use Rattle.sequencer.specs.Seats.{Seat}
+use Rattle.world_events.specs.Prelude.{IsScanEnded, IsScanFired, ctl_in, WorldView}
+use Rattle.sequencer.specs.Prelude.{Drive, Seat}
 
 -- the local in which it begins
 abbrev pub begun : Held → LocalView

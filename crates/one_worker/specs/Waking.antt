@@ -1,11 +1,10 @@
 -- Where one worker is in a cycle, and how far what it does brings the run: which world it takes a controller in and which it goes on in,
 -- that it ends one wake-up more in the same cycle, and that it comes to a later cycle or to a verdict.
 use Rattle.std.specs.Prelude.{◌≡◌, ◌+◌, ◌-◌, ℕ, Bool, None, Some, List, count_by, is_none, not, position, if◌then◌else◌}
-use Rattle.protocol_runs.specs.World.{Place, World, is_free}
-use Rattle.ctl_face.specs.Ctl.{Ctl}
-use Rattle.world_events.specs.Worlds.{IsNobodyHeld, IsWorldOf, WorldView, rules_in}
-use Rattle.sequencer.specs.Drive.{Drive}
-use Rattle.sequencer.specs.Seats.{Seat}
+use Rattle.protocol_runs.specs.Prelude.{Place, World, is_free}
+use Rattle.ctl_face.specs.Prelude.{Ctl}
+use Rattle.world_events.specs.Prelude.{IsNobodyHeld, IsWorldOf, WorldView, rules_in}
+use Rattle.sequencer.specs.Prelude.{Drive, Seat}
 
 abbrev pub is_unfinished : {C : Type 0} → Place C → Bool
 is_unfinished p = not p.finished

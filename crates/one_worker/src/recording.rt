@@ -1,11 +1,9 @@
 //! The record of a run that has ended.
 ghost use Rattle.std.specs.Prelude.{◌≡◌, ◌∷◌, [], IfOk, Ok};
-ghost use Rattle.run_journal.specs.Tally.{tally};
-ghost use Rattle.protocol_runs.specs.Account.{account};
-ghost use Rattle.protocol_runs.specs.Alone.{IsAlone};
-ghost use Rattle.protocol_runs.specs.Run.{HasEnded};
-ghost use Rattle.protocol_meaning.specs.Records.{IsRecordOf, IsWholeRunBy, rules_in as rules_of};
-ghost use Rattle.world_events.specs.Worlds.{InWorld, rules_in};
+ghost use Rattle.run_journal.specs.Prelude.{tally};
+ghost use Rattle.protocol_runs.specs.Prelude.{account, IsAlone, HasEnded};
+ghost use Rattle.protocol_meaning.specs.Prelude.{IsRecordOf, IsWholeRunBy, rules_in as rules_of};
+ghost use Rattle.world_events.specs.Prelude.{InWorld, rules_in};
 
 use crate::waking::WORKER;
 use protocol_meaning::RunRecord;

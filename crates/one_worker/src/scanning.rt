@@ -1,8 +1,8 @@
 //! A scan of a controller that is held.
 ghost use Rattle.std.specs.Prelude.{◌≡◌, IfOk};
-ghost use Rattle.ctl_store.specs.Drafted.{view_of};
+ghost use Rattle.ctl_store.specs.Prelude.{view_of};
 ghost use Rattle.one_worker.specs.Scanned.{IsScanned, begun};
-ghost use Rattle.world_events.specs.Held.{Holds};
+ghost use Rattle.world_events.specs.Prelude.{Holds};
 
 use body_meaning::RoundEnd;
 use ctl_store::{Draft, Outcome};

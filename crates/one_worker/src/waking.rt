@@ -1,9 +1,7 @@
 //! The wake-ups of a cycle by one worker, who is worker 0.
 ghost use Rattle.std.specs.Prelude.{◌≡◌, OnOk};
-ghost use Rattle.one_worker.specs.Adds.{HasAddedAlone};
-ghost use Rattle.one_worker.specs.Waking.{AreWorlds, Finishes, IsBetween, IsNext};
-ghost use Rattle.world_events.specs.Held.{Holds};
-ghost use Rattle.world_events.specs.Worlds.{CanTurn, InWorld};
+ghost use Rattle.one_worker.specs.Prelude.{HasAddedAlone, AreWorlds, Finishes, IsBetween, IsNext};
+ghost use Rattle.world_events.specs.Prelude.{Holds, CanTurn, InWorld};
 
 use crate::scanning::{Scanned, scan};
 use protocol_meaning::Protocol;

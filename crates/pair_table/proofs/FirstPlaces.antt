@@ -8,9 +8,9 @@ use Rattle.std.proofs.Math.Seq.{drop-cons}
 use Rattle.std.proofs.lemmas.List.Elements.{All-append, All-map, All-nil, All-cons}
 use Rattle.std.proofs.lemmas.List.{get_or-set_same, get_or-set_other}
 use Rattle.slicc_plan.specs.declared.row.Written.{Written}
-use Rattle.slicc_plan.specs.Machines.{includes, is_for}
-use Rattle.slicc_plan.specs.TwoTransitions.{share_pair}
-use Rattle.pair_table.specs.PairPlaces.{IsAmong, first_at, is_at, least_at, marked, places_of}
+use Rattle.slicc_plan.specs.Machines.{is_for}
+use Rattle.slicc_plan.specs.Prelude.{includes, share_pair}
+use Rattle.pair_table.specs.Prelude.{IsAmong, first_at, is_at, least_at, marked, places_of}
 use Rattle.pair_table.proofs.Lists.{any_congr, any_fixed, any_flat, any_mapped, any_with, first_in_front, first_of_either}
 
 pub marked_length : (n : ℕ) (ps fs : List ℕ) → length (marked n ps fs) ≡ length fs

@@ -10,10 +10,10 @@ use Rattle.slicc_plan.specs.declared.broken.Broken.{Broken}
 use Rattle.slicc_plan.specs.declared.row.Row.{Row}
 use Rattle.slicc_plan.specs.declared.row.Written.{Written}
 use Rattle.slicc_plan.specs.Buffers.{listed}
-use Rattle.slicc_plan.specs.Machines.{includes, is_for, row_of, rows_from}
-use Rattle.slicc_plan.specs.TwoTransitions.{share_pair, shared_after, told_with}
-use Rattle.pair_table.specs.PairPlaces.{IsAmong, first_at, is_at, row_at, rows_at}
-use Rattle.pair_table.specs.Tables.{answer_at, inner}
+use Rattle.slicc_plan.specs.Machines.{is_for, row_of, rows_from}
+use Rattle.slicc_plan.specs.Prelude.{includes, share_pair, shared_after}
+use Rattle.slicc_plan.specs.TwoTransitions.{told_with}
+use Rattle.pair_table.specs.Prelude.{IsAmong, first_at, is_at, row_at, rows_at, answer_at, inner}
 use Rattle.pair_table.proofs.Lists.{first_congr}
 use Rattle.pair_table.proofs.FirstPlaces.{at_pair}
 use Rattle.pair_table.proofs.RowsOfPlaces.{rows_at-get}

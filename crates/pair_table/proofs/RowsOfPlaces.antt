@@ -5,7 +5,7 @@ use Rattle.std.proofs.Math.Seq.{take-suc}
 use Rattle.std.proofs.lemmas.Grind.{common_steps}
 use Rattle.slicc_plan.specs.declared.row.Row.{Row}
 use Rattle.slicc_plan.specs.declared.row.Written.{Written}
-use Rattle.pair_table.specs.PairPlaces.{row_at, rows_at}
+use Rattle.pair_table.specs.Prelude.{row_at, rows_at}
 
 pub rows_at-push : (ws : List Written) (events place : ℕ) (ns : List ℕ) (n : ℕ) → rows_at ws events place (ns ++ n ∷ []) ≡ rows_at ws events place ns ++ row_at ws ((place + length ns) / events) ((place + length ns) % events) n ∷ []
 rows_at-push ws events place [] n = grind arith

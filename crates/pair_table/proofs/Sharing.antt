@@ -9,11 +9,11 @@ use Rattle.slicc_plan.specs.declared.broken.Broken.{Broken}
 use Rattle.slicc_plan.specs.declared.row.Row.{Row}
 use Rattle.slicc_plan.specs.declared.row.Written.{Written}
 use Rattle.slicc_plan.specs.Buffers.{listed}
-use Rattle.slicc_plan.specs.Machines.{includes, is_for, row_of, rows_from}
-use Rattle.slicc_plan.specs.Order.{first_after}
-use Rattle.slicc_plan.specs.TwoTransitions.{share_pair, shared_after, told_with}
+use Rattle.slicc_plan.specs.Machines.{is_for, row_of, rows_from}
+use Rattle.slicc_plan.specs.Prelude.{includes, first_after, share_pair, shared_after}
+use Rattle.slicc_plan.specs.TwoTransitions.{told_with}
 use Rattle.slicc_plan.proofs.Firsts.{first_after-append}
-use Rattle.pair_table.specs.PairPlaces.{IsAmong, first_at, is_at, least_at, places_of}
+use Rattle.pair_table.specs.Prelude.{IsAmong, first_at, is_at, least_at, places_of}
 use Rattle.pair_table.proofs.Lists.{first_congr, first_in_front}
 use Rattle.pair_table.proofs.FirstPlaces.{least_first, places_below, shared_place}
 

@@ -5,7 +5,8 @@ use Rattle.std.specs.List.{position_or_len}
 use Rattle.std.specs.Option.{option_map}
 use Rattle.slicc_plan.specs.declared.row.Row.{Row}
 use Rattle.slicc_plan.specs.declared.row.Written.{Written}
-use Rattle.slicc_plan.specs.Machines.{includes, row_of}
+use Rattle.slicc_plan.specs.Machines.{row_of}
+use Rattle.slicc_plan.specs.Prelude.{includes}
 
 -- of all pairs that the transition is written for
 abbrev pub places_of : ℕ → Written → List ℕ

@@ -1,7 +1,6 @@
 //! The table of a machine, made from its written transitions.
 ghost use Rattle.std.specs.Prelude.{◌≡◌, ◌<◌, ◌≤◌, ◌^◌, [], All, length, IfOk};
-ghost use Rattle.slicc_plan.specs.Order.{first_after};
-ghost use Rattle.slicc_plan.specs.TwoTransitions.{shared_after};
+ghost use Rattle.slicc_plan.specs.Prelude.{first_after, shared_after};
 ghost use Rattle.pair_table.specs.PairPlaces.{IsAmong};
 ghost use Rattle.pair_table.specs.Tables.{IsTableOf};
 

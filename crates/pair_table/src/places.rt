@@ -1,6 +1,6 @@
 //! The places of pairs in a machine's table, and the first transition that is written for each of them.
 ghost use Rattle.std.specs.Prelude.{◌≡◌, ◌<◌, ◌≤◌, ◌^◌, ◌+◌, ◌*◌, ◌++◌, All, length, map, IfOk, OnOk};
-ghost use Rattle.pair_table.specs.PairPlaces.{AreFirsts, IsAmong, least_at, marked, places_of};
+ghost use Rattle.pair_table.specs.Prelude.{AreFirsts, IsAmong, least_at, marked, places_of};
 
 use ruby_base::{NoMemory, Seq};
 use slicc_plan::Written;

@@ -1,6 +1,6 @@
 //! The rows of a machine's table.
 ghost use Rattle.std.specs.Prelude.{◌≡◌, ◌≤◌, ◌^◌, ◌*◌, length, IfOk};
-ghost use Rattle.pair_table.specs.PairPlaces.{row_at, rows_at};
+ghost use Rattle.pair_table.specs.Prelude.{row_at, rows_at};
 
 use ruby_base::{NoMemory, Seq};
 use slicc_plan::{Row, Written};

@@ -1,8 +1,8 @@
 //! Transitions that are written for one pair.
 ghost use Rattle.std.specs.Prelude.{◌≡◌, ◌<◌, ◌≤◌, ◌^◌, ◌*◌, [], All, length, slice_get, IfOk};
-ghost use Rattle.slicc_plan.specs.Order.{first_after};
-ghost use Rattle.slicc_plan.specs.TwoTransitions.{shared_after, told_with};
-ghost use Rattle.pair_table.specs.PairPlaces.{AreFirsts, IsAmong};
+ghost use Rattle.slicc_plan.specs.Prelude.{first_after, shared_after};
+ghost use Rattle.slicc_plan.specs.TwoTransitions.{told_with};
+ghost use Rattle.pair_table.specs.Prelude.{AreFirsts, IsAmong};
 
 use crate::places::earliest;
 use ruby_base::NoMemory;

@@ -6,8 +6,7 @@ use Rattle.std.proofs.lemmas.List.Kept.{AllPairs-cons}
 use Rattle.std.specs.List.{All, AllPairs}
 use Rattle.ruby_value.proofs.Ordered.{AllPairs-append, AllPairs-nil}
 use Rattle.sequencer.specs.declared.owned_seat.OwnedSeat.{OwnedSeat}
-use Rattle.sequencer.specs.OwnedSeats.{seat_of, seats_of}
-use Rattle.sequencer.specs.Seats.{AreApart, Seat}
+use Rattle.sequencer.specs.Prelude.{seat_of, seats_of, AreApart, Seat}
 
 -- each controller's number is below this one
 abbrev pub AreBelow : ℕ → List OwnedSeat → Type 0

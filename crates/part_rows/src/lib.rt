@@ -1,6 +1,6 @@
-//! Rows of parts of the program that no whole call shows, which the program `rows` prints: of each part a line `# NAME`, and below it the
-//! part's rows. What has to be printed is in `crates/rows/stdout`, and each module says where that is from. A further part is a module
-//! with one function, which adds its rows; the two lines below that call it; its folder in `crates/rows/data` if it reads files; and its
+//! Rows of parts of the program that no whole call shows, which the program `parts` prints: of each part a line `# NAME`, and below it the
+//! part's rows. What has to be printed is in `crates/parts/stdout`, and each module says where that is from. A further part is a module
+//! with one function, which adds its rows; the two lines below that call it; its folder in `crates/parts/data` if it reads files; and its
 //! text in `stdout`, which `bench/part` puts there.
 #![tactic(auto)]
 

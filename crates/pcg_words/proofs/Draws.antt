@@ -2,7 +2,7 @@
 use Rattle.std.proofs.Common.{◌≡◌, ℕ, zero, suc, ◌+◌, refl, sym, ap, ◌∙◌, add-one}
 use Rattle.rand_pcg.specs.Lcg.{Lcg, started, increment_of, advance, next_state, state_after}
 use Rattle.rand_pcg.specs.Pcg.{multiplier_64, pcg32}
-use Rattle.pcg_words.specs.Word.{generator_after, word}
+use Rattle.pcg_words.specs.Prelude.{generator_after, word}
 
 pub generator_after-zero : (seed stream : ℕ)
     → generator_after seed stream 0 ≡ started 64 multiplier_64 seed (increment_of 64 stream)

@@ -4,7 +4,7 @@ use Rattle.std.proofs.lemmas.Nat.{mul-mod_first, mul-mod_second}
 use Rattle.rand_pcg.specs.Lcg.{Lcg, started, increment_of, next_state, state_after}
 use Rattle.rand_pcg.specs.Pcg.{multiplier_64, pcg32}
 use Rattle.rand_pcg.proofs.LcgLemmas.{state_after_double}
-use Rattle.pcg_words.specs.Word.{generator_after, word}
+use Rattle.pcg_words.specs.Prelude.{generator_after, word}
 use Rattle.pcg_words.proofs.Draws.{advance-started, generator_after-zero, generator_after-one_more, word-advance}
 
 -- the multiplier of 2 ^ j steps with the multiplier m, and b times what multiplies their increment

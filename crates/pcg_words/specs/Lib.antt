@@ -1,3 +1,4 @@
 pub mod Below
 pub mod Position
 pub mod Word
+pub mod Prelude

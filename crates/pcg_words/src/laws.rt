@@ -3,7 +3,7 @@
 ghost use Rattle.std.specs.Prelude.{◌≡◌, ◌+◌, ◌^◌};
 ghost use Rattle.rand_pcg.specs.Lcg.{advance, increment_of, started};
 ghost use Rattle.rand_pcg.specs.Pcg.{multiplier_64, pcg32};
-ghost use Rattle.pcg_words.specs.Word.{word};
+ghost use Rattle.pcg_words.specs.Prelude.{word};
 
 /// A jump of `n` steps from the stream's beginning leads to word `n`, as `n` draws do.
 #[tactic(auto, using(crate::proofs::Period::streams))]

@@ -4,32 +4,15 @@ use Rattle.std.proofs.lemmas.Bool.{cond_both}
 use Rattle.std.specs.FinMap as map
 use Rattle.ruby_value.specs.declared.fault.Fault.{Fault}
 use Rattle.ruby_value.specs.declared.fault.Fault.TheVariants.{Reference}
-use Rattle.ctl_face.specs.Allocate.{allocate}
-use Rattle.ctl_face.specs.Avail.{probe}
-use Rattle.ctl_face.specs.Callback.{after_callback, block_after_write, called_back, read_back, write_back}
-use Rattle.ctl_face.specs.Deallocate.{deallocate}
-use Rattle.ctl_face.specs.Enqueue.{enqueue}
-use Rattle.ctl_face.specs.Get.{get}
-use Rattle.ctl_face.specs.LocalView.{LocalView}
-use Rattle.ctl_face.specs.Lookup.{reference_to}
-use Rattle.ctl_face.specs.Pop.{pop}
-use Rattle.ctl_face.specs.Ready.{required_front}
-use Rattle.ctl_face.specs.Recycle.{recycle}
-use Rattle.ctl_face.specs.Set.{set as set_field}
-use Rattle.ctl_face.specs.Stall.{stall}
-use Rattle.ctl_face.specs.State.{set_state, state}
-use Rattle.ctl_face.specs.Touch.{touch}
+use Rattle.ctl_face.specs.Prelude.{allocate, probe, after_callback, block_after_write, called_back, read_back, write_back, deallocate, enqueue, get, LocalView, reference_to, pop, required_front, recycle, set, stall, set_state, state, touch}
 use Rattle.ctl_face.proofs.Cases.{Good, good_ok, good_err}
 use Rattle.ctl_face.proofs.Maps.{insert_keeps}
 use Rattle.ruby_value.specs.declared.asked.BackFault.{BackFault}
 use Rattle.ruby_value.specs.declared.fault.Fault.TheVariants as fault
 use Rattle.ruby_value.specs.Callback as callback
-use Rattle.ruby_value.specs.Requests.{Requests}
-use Rattle.acts.specs.Act.{Act, Now, Me, Get, Set, Lookup, Avail, Probe, Allocate, Deallocate, Touch, Free, Ready, Front, Pop, Stall, Wake, WakeAll, Recycle, Send, ReadBack, WriteBack, State, SetState, Again, answer}
-use Rattle.acts.specs.Acting.{Acting, ends, stops, acts, follow, run}
-use Rattle.acts.specs.Done.{Done, changes, does, does_served, reads}
-use Rattle.acts.specs.Serves.{serves}
-use Rattle.protocol_meaning.specs.Extent.{IsMember}
+use Rattle.ruby_value.specs.Prelude.{Requests}
+use Rattle.acts.specs.Prelude.{Act, Now, Me, Get, Set, Lookup, Avail, Probe, Allocate, Deallocate, Touch, Free, Ready, Front, Pop, Stall, Wake, WakeAll, Recycle, Send, ReadBack, WriteBack, State, SetState, Again, answer, Acting, ends, stops, acts, follow, run, Done, changes, does, does_served, reads, serves}
+use Rattle.protocol_meaning.specs.Prelude.{IsMember}
 use Rattle.protocol_meaning.proofs.Bodies.{AnswersWithin, AsksWithin, EndsWithin, Stays}
 use Rattle.protocol_meaning.proofs.Bounds.{Bounds, ViewWithin}
 use Rattle.protocol_meaning.proofs.Mail.{again_keeps, front_reads, pop_keeps, recycle_keeps, send_keeps, stall_keeps, wake_all_keeps, wake_keeps}
@@ -101,7 +84,7 @@ act_keeps : (b : Bounds) (a : Act) (v : LocalView) → ViewWithin b v → AsksWi
 act_keeps b Now v is asks = (is, tt)
 act_keeps b Me v is asks = (is, is.me)
 act_keeps b (Get r field) v is asks = read b v is (AnswersWithin b (Get r field)) (get v r field) (get_reads b v is r field)
-act_keeps b (Set r field value) v is asks = changed b v is (λ _. Unit {0}) tt (set_field v r field value) (set_keeps b v is r field value asks.0 asks.1) tt
+act_keeps b (Set r field value) v is asks = changed b v is (λ _. Unit {0}) tt (set v r field value) (set_keeps b v is r field value asks.0 asks.1) tt
 act_keeps b (Lookup table line) v is asks = (is, tt)
 act_keeps b (Avail table line) v is asks = (is, tt)
 act_keeps b (Probe table line) v is asks = any b v is (probe v table line)

@@ -2,10 +2,8 @@
 -- values; their answers are within the bounds then. And bodies of such acts.
 use Rattle.std.specs.Prelude.{◌≡◌, Result, Ok, Err}
 use Rattle.ruby_value.specs.declared.fault.Fault.{Fault}
-use Rattle.acts.specs.Act.{Act, answer, Me, Get, Set, Front, Send, State, SetState}
-use Rattle.acts.specs.Acting.{Acting, ends, stops, acts}
-use Rattle.acts.specs.Done.{Done}
-use Rattle.protocol_meaning.specs.Extent.{AreWithin, IsController, IsMember, IsWithin}
+use Rattle.acts.specs.Prelude.{Act, answer, Me, Get, Set, Front, Send, State, SetState, Acting, ends, stops, acts, Done}
+use Rattle.protocol_meaning.specs.Prelude.{AreWithin, IsController, IsMember, IsWithin}
 use Rattle.protocol_meaning.proofs.Bounds.{Bounds, IsKept, ViewWithin}
 
 module _ (b : Bounds) where

@@ -6,11 +6,8 @@ use Rattle.ruby_value.specs.declared.message.Delivery.{Delivery}
 use Rattle.ruby_value.specs.declared.message.Message.{Message}
 use Rattle.ruby_value.specs.declared.value.Ref.{Ref}
 use Rattle.ruby_value.specs.declared.value.Value.{Value}
-use Rattle.ctl_face.specs.LocalView.{LocalView}
-use Rattle.ctl_face.specs.OfMachine.{initial_fields}
-use Rattle.ctl_face.specs.Table.{ParameterTable}
-use Rattle.protocol_meaning.specs.Extent.{Extent, AreWithin, IsController, IsMember}
-use Rattle.protocol_meaning.specs.Held.{HoldsWithin}
+use Rattle.ctl_face.specs.Prelude.{LocalView, initial_fields, ParameterTable}
+use Rattle.protocol_meaning.specs.Prelude.{Extent, AreWithin, IsController, IsMember, HoldsWithin}
 
 -- the extent, the number of the enumeration of the machine's states, and the number of the table of its values, with these
 pub record Bounds : Type 0 where

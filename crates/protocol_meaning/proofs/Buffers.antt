@@ -5,18 +5,14 @@ use Rattle.ruby_value.specs.declared.setup.BufferPlace.{BufferPlace}
 use Rattle.ruby_value.specs.declared.setup.BufferPlace.TheVariants as place
 use Rattle.ruby_value.specs.declared.setup.BufferSetup.{BufferSetup}
 use Rattle.ruby_value.specs.declared.setup.Sizes.{Sizes}
-use Rattle.ruby_value.specs.NetworkOf.{network_of}
+use Rattle.ruby_value.specs.Prelude.{network_of}
 use Rattle.ruby_symbols.specs.declared.machine.BufferSymbol.{BufferSymbol}
 use Rattle.slicc_ast.specs.declared.tree.declaration.Pairs.{Pairs}
 use Rattle.slicc_ast.specs.declared.tree.item.Tree.{Tree}
 use Rattle.slicc_ast.specs.declared.tree.machine.Machine.{Machine}
-use Rattle.slicc_plan.specs.Buffers.{BufferIn, buffer_in}
-use Rattle.slicc_plan.specs.Declarations.{Declaration, machine_declarations}
+use Rattle.slicc_plan.specs.Prelude.{BufferIn, buffer_in, Declaration, machine_declarations, attributes_of, buffer_by, buffer_place, buffer_setups, kinds_on, setup_in, buffer_of_place, buffer_symbol, buffer_symbols, machine_symbols, structure_number}
 use Rattle.slicc_plan.specs.MessageTypes.{message_type}
-use Rattle.slicc_plan.specs.Setups.{attributes_of, buffer_by, buffer_place, buffer_setups, kinds_on, setup_in}
-use Rattle.slicc_plan.specs.SymbolsOfMachines.{buffer_of_place, buffer_symbol, buffer_symbols, machine_symbols}
-use Rattle.slicc_plan.specs.TypeNumbers.{structure_number}
-use Rattle.ruby_topology.specs.Topology.{is_from, is_on}
+use Rattle.ruby_topology.specs.Prelude.{is_from, is_on}
 
 -- both are of this buffer of the machine of this number
 pub record IsPair (trees : List Tree) (number : ℕ) (s : BufferSetup) (b : BufferSymbol) : Type 0 where

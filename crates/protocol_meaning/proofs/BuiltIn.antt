@@ -6,12 +6,11 @@ use Rattle.std.specs.List.{fold}
 use Rattle.ruby_value.specs.declared.value.Ref.{Ref}
 use Rattle.ruby_value.specs.declared.value.Value.{Value}
 use Rattle.ruby_value.specs.declared.value.Value.TheVariants as value
-use Rattle.ruby_value.specs.WithMember.{with_member}
-use Rattle.ruby_value.specs.WithoutMember.{without_member}
+use Rattle.ruby_value.specs.Prelude.{with_member, without_member}
 use Rattle.ruby_value.proofs.Ordered.{All-insert}
 use Rattle.ctl_face.proofs.Lines.{All-found}
 use Rattle.acts.specs.Act as act
-use Rattle.acts.specs.Acting.{Acting}
+use Rattle.acts.specs.Prelude.{Acting}
 use Rattle.built_in_acts.specs.declared.call.Call.{Call}
 use Rattle.built_in_acts.specs.declared.call.Call.TheVariants as call
 use Rattle.built_in_acts.specs.declared.call.ControllerCall.{ControllerCall}
@@ -28,12 +27,9 @@ use Rattle.built_in_acts.specs.declared.call.ValueCall.{ValueCall}
 use Rattle.built_in_acts.specs.declared.call.ValueCall.TheVariants as plain
 use Rattle.built_in_acts.specs.declared.machines.Placed.{Placed}
 use Rattle.built_in_acts.specs.declared.machines.Range.{Range}
-use Rattle.built_in_acts.specs.declared.setting.CallSetting.{CallSetting}
-use Rattle.built_in_acts.specs.BuiltIn.{built_in, called, line_used, of_set, of_values, on_controller, on_machines, on_messages, on_table, referred, silent, told, used}
-use Rattle.built_in_acts.specs.Calls.{call_at, calls}
-use Rattle.built_in_acts.specs.Machines.{home_in, is_in, kept_number, place_of, placed_from, range_at, range_of, small, with_numbers, with_range}
-use Rattle.built_in_acts.specs.Values.{address_of_line, argument, block, controller, controllers, line_named, member, number}
-use Rattle.protocol_meaning.specs.Extent.{AreWithin, IsController, IsMember, IsWithin}
+use Rattle.built_in_acts.specs.declared.call.CallSetting.{CallSetting}
+use Rattle.built_in_acts.specs.Prelude.{built_in, called, line_used, of_set, of_values, on_controller, on_machines, on_messages, on_table, referred, silent, told, used, call_at, calls, home_in, is_in, kept_number, place_of, placed_from, range_at, range_of, small, with_numbers, with_range, address_of_line, argument, block, controller, controllers, line_named, member, number}
+use Rattle.protocol_meaning.specs.Prelude.{AreWithin, IsController, IsMember, IsWithin}
 use Rattle.protocol_meaning.proofs.Bounds.{Bounds}
 use Rattle.protocol_meaning.proofs.Setting.{SettingWithin}
 use Rattle.protocol_meaning.proofs.Stay.{Stay, act_stays, done_stays, either_stays, ends_stays, found_stays, stops_stays, then_stays}

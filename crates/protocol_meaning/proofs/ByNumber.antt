@@ -8,12 +8,9 @@ use Rattle.ruby_value.specs.declared.setup.Sizes.{Sizes}
 use Rattle.ruby_symbols.specs.declared.machine.MachineSymbols.{MachineSymbols}
 use Rattle.slicc_ast.specs.declared.tree.item.Tree.{Tree}
 use Rattle.slicc_ast.specs.declared.tree.machine.Machine.{Machine}
-use Rattle.slicc_plan.specs.Declarations.{machines_of}
-use Rattle.slicc_plan.specs.Setups.{setup_in, setup_of}
-use Rattle.slicc_plan.specs.SymbolsOf.{symbols_of}
-use Rattle.slicc_plan.specs.SymbolsOfMachines.{machine_symbols}
+use Rattle.slicc_plan.specs.Prelude.{machines_of, setup_in, setup_of, symbols_of, machine_symbols}
 use Rattle.slicc_plan.proofs.Machines.{symbols_at}
-use Rattle.protocol_meaning.specs.Setups.{setups_of}
+use Rattle.protocol_meaning.specs.Prelude.{setups_of}
 use Rattle.protocol_meaning.proofs.Places.{AreThere, and_then_found, each_at, each_counted, map_found}
 
 -- Symbols.

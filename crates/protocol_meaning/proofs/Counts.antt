@@ -6,12 +6,9 @@ use Rattle.std.specs.Option.{option_or}
 use Rattle.std.proofs.lemmas.List.Elements.{All-head, All-tail}
 use Rattle.std.proofs.lemmas.List.FromFn.{get_or-map-range_with_len, get_or-range_with_len, length-map-range_with_len, length-range_with_len}
 use Rattle.ruby_symbols.specs.declared.symbols.Symbols.{Symbols}
-use Rattle.ruby_topology.specs.declared.statement.Statement.{Statement}
-use Rattle.ruby_topology.specs.declared.statement.Statement.TheVariants.{Machine, Network, Link, Jitter, Ordered, Cache, Tbes, Set}
-use Rattle.ruby_topology.specs.Members.{count_or_none}
-use Rattle.ruby_topology.specs.Said.{count_in, count_of, jitter_in, jitter_said}
-use Rattle.ruby_topology.specs.Topology.{counts_of, lacks_line}
-use Rattle.ruby_topology.specs.Within.{IsWithin}
+use Rattle.ruby_topology.specs.declared.forms.Statement.{Statement}
+use Rattle.ruby_topology.specs.declared.forms.Statement.TheVariants.{Machine, Network, Link, Jitter, Ordered, Cache, Tbes, Set}
+use Rattle.ruby_topology.specs.Prelude.{count_or_none, count_in, count_of, jitter_in, jitter_said, counts_of, lacks_line, IsWithin}
 use Rattle.protocol_meaning.proofs.Lines.{none_passes}
 
 some_count : (said : List Statement) (machine : ℕ) → All IsWithin said → is_none (count_of said machine) ≡ false → 1 ≤ unwrap_or (count_of said machine) 0

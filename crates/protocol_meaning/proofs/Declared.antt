@@ -14,19 +14,12 @@ use Rattle.slicc_ast.specs.declared.tree.declaration.State.{State}
 use Rattle.slicc_ast.specs.declared.tree.declaration.Symbol.{Symbol}
 use Rattle.slicc_ast.specs.declared.tree.item.Tree.{Tree}
 use Rattle.slicc_ast.specs.declared.tree.name.Name.{Name}
-use Rattle.slicc_plan.specs.AllRules.{IsAccepted}
-use Rattle.slicc_plan.specs.Attributes.{Attribute, first_attribute}
-use Rattle.slicc_plan.specs.Declarations.{Declaration, machine, enumeration, states, state, member, Scope, name_of}
-use Rattle.slicc_plan.specs.Limits.{is_enumeration}
-use Rattle.slicc_plan.specs.SymbolsOf.{symbols_of}
-use Rattle.slicc_plan.specs.SymbolsOfTypes.{enumeration_symbol, enumeration_symbols, owner}
-use Rattle.slicc_plan.specs.TypeNumbers.{ScopedDeclaration, declared_enumerations, declared_number, declares, default_found, default_member, default_number, is_default_of, made_in, member_number, own_default, scoped_declarations}
-use Rattle.slicc_plan.specs.Types.{KnownType, enumerated, declared_type}
+use Rattle.slicc_plan.specs.Prelude.{IsAccepted, Attribute, first_attribute, Declaration, machine, states, state, member, Scope, name_of, is_enumeration, symbols_of, enumeration_symbol, enumeration_symbols, owner, ScopedDeclaration, declared_enumerations, declared_number, declares, default_found, default_member, default_number, is_default_of, made_in, member_number, own_default, scoped_declarations, KnownType, enumerated, declared_type}
+use Rattle.slicc_plan.specs.Declarations.{enumeration}
 use Rattle.slicc_plan.proofs.There.{There, all_there, there_filtered}
 use Rattle.slicc_plan.proofs.Types.{each_enumeration, enumeration_stands, made_at}
 use Rattle.protocol_meaning.proofs.Places.{at_position, map_found}
-use Rattle.protocol_meaning.specs.Extent.{Extent, IsMember, members_of}
-use Rattle.protocol_meaning.specs.Runs.{declared_extent}
+use Rattle.protocol_meaning.specs.Prelude.{Extent, IsMember, members_of, declared_extent}
 
 -- Enumerations and state declarations.
 

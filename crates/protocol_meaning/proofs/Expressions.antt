@@ -12,7 +12,7 @@ use Rattle.slicc_ast.specs.declared.tree.expression.Operator.{Operator}
 use Rattle.slicc_ast.specs.declared.tree.expression.Operator.TheVariants.{Or, And, Equal, Unequal, Less, Greater, LessOrEqual, GreaterOrEqual, Plus, Minus, Times}
 use Rattle.slicc_ast.specs.declared.tree.expression.Suffix.{Suffix, Field, Method', Index}
 use Rattle.slicc_ast.specs.declared.tree.expression.Expr.{Expr, Number, True, False, Nothing, Variable, Member, Call', New, Row_of-Expr, end_of-Expr, more_of-Expr, Row_of-Operand, end_of-Operand, more_of-Operand, Row_of-Suffix, end_of-Suffix, more_of-Suffix}
-use Rattle.slicc_ast.specs.Boxes.{Operation', Not', Negate', Postfix', IsValid', IsInvalid', Cast', Group'}
+use Rattle.slicc_ast.specs.Prelude.{Operation', Not', Negate', Postfix', IsValid', IsInvalid', Cast', Group'}
 use Rattle.ruby_value.specs.declared.value.Ref.{Ref}
 use Rattle.ruby_value.specs.declared.value.Value.{Value}
 use Rattle.ruby_value.specs.declared.value.Value.TheVariants as plain
@@ -23,31 +23,20 @@ use Rattle.ruby_symbols.specs.declared.machine.TableSymbol.{TableSymbol}
 use Rattle.ruby_symbols.specs.declared.names.Named.{Named}
 use Rattle.ruby_symbols.specs.declared.names.Named.TheVariants as named
 use Rattle.ruby_symbols.specs.declared.types.EnumerationSymbol.{EnumerationSymbol}
-use Rattle.ruby_symbols.specs.Names.{function_named, stands_for}
-use Rattle.ruby_symbols.specs.Numbers.{short_number}
-use Rattle.ruby_symbols.specs.Types.{enumeration_named, member_named}
+use Rattle.ruby_symbols.specs.Prelude.{function_named, stands_for, short_number, enumeration_named, member_named}
 use Rattle.ctl_face.proofs.Lines.{All-found}
 use Rattle.acts.specs.declared.body_fault.BodyFault.{BodyFault}
 use Rattle.acts.specs.Act as act
-use Rattle.acts.specs.Acting.{Acting, ends}
-use Rattle.built_in_acts.specs.Operators.{difference, negation, product, sum}
-use Rattle.built_in_acts.specs.Values.{argument, member, reference, truth}
-use Rattle.body_meaning.specs.declared.calls.Numbered.{Numbered}
+use Rattle.acts.specs.Prelude.{Acting, ends}
+use Rattle.built_in_acts.specs.Prelude.{difference, negation, product, sum, argument, member, reference, truth}
+use Rattle.body_meaning.specs.declared.thing.Numbered.{Numbered}
 use Rattle.body_meaning.specs.declared.frame.About.{About}
 use Rattle.body_meaning.specs.declared.frame.Bound.{Bound}
 use Rattle.body_meaning.specs.declared.frame.Frame.{Frame}
 use Rattle.body_meaning.specs.declared.thing.Thing.{Thing}
 use Rattle.body_meaning.specs.declared.thing.Thing.TheVariants as thing
-use Rattle.body_meaning.specs.CallNumbers.{cache_call, callback, directory_call, entry_call, index_call, plain_call, port_call, read_callback, sequencer_call, set_call, table_call, tbe_call, write_callback}
-use Rattle.body_meaning.specs.Calls.{Calls, as_member, called_on, free_call, function_or, index, indexed_on, is_permission_call, member_among, method_call, named_call, numbered, on_table, permission_call, permission_of, plain_or, thing_built, trigger_of, value_call, value_found, with_receiver}
-use Rattle.body_meaning.specs.Each.{each}
-use Rattle.body_meaning.specs.Expressions.{field_at, field_in, field_through, negation_of, operands, operated, suffixed, suffixed_all, thing_in, value, value_behind, value_step, values, values_of, variable, variable_or, with_value}
-use Rattle.body_meaning.specs.Frames.{is_named, thing_about, thing_bound}
-use Rattle.body_meaning.specs.Names.{declared, line_field, member_at, member_in, member_value, message_field, named_everywhere, own_number, parameter, port_at, port_thing, structure_field, thing_declared, thing_got}
-use Rattle.body_meaning.specs.Operators.{joined, negated, number_made, settled, settled_by}
-use Rattle.body_meaning.specs.Reading.{Reading}
-use Rattle.body_meaning.specs.Things.{thing_of, value_in}
-use Rattle.protocol_meaning.specs.Extent.{AreWithin, Extent, IsMember, IsWithin, members_of}
+use Rattle.body_meaning.specs.Prelude.{cache_call, callback, directory_call, entry_call, index_call, plain_call, port_call, read_callback, sequencer_call, set_call, table_call, tbe_call, write_callback, Calls, as_member, called_on, free_call, function_or, index, indexed_on, is_permission_call, member_among, method_call, named_call, numbered, on_table, permission_call, permission_of, plain_or, thing_built, trigger_of, value_call, value_found, with_receiver, each, field_at, field_in, field_through, negation_of, operands, operated, suffixed, suffixed_all, thing_in, value, value_behind, value_step, values, values_of, variable, variable_or, with_value, is_named, thing_about, thing_bound, declared, line_field, member_at, member_in, member_value, message_field, named_everywhere, own_number, parameter, port_at, port_thing, structure_field, thing_declared, thing_got, joined, negated, number_made, settled, settled_by, Reading, thing_of, value_in}
+use Rattle.protocol_meaning.specs.Prelude.{AreWithin, Extent, IsMember, IsWithin, members_of}
 use Rattle.protocol_meaning.proofs.Bounds.{Bounds}
 use Rattle.protocol_meaning.proofs.Reading.{FrameWithin, ReadingWithin, ThingWithin, bounds_of, extent_of}
 use Rattle.protocol_meaning.proofs.BuiltIn.{built_in_stays}

@@ -4,22 +4,16 @@ use Rattle.ruby_base.specs.declared.memory.NoMemory.{NoMemory}
 use Rattle.run_journal.specs.declared.entry.FireNote.{FireNote}
 use Rattle.run_journal.specs.declared.entry.StopAt.{StopAt}
 use Rattle.slicc_ast.specs.declared.tree.item.Tree.{Tree}
-use Rattle.ctl_face.specs.LocalView.{LocalView, SameScan}
-use Rattle.acts.specs.Done.{Done}
-use Rattle.acts.specs.Left.{IsLeft}
+use Rattle.ctl_face.specs.Prelude.{LocalView, SameScan}
+use Rattle.acts.specs.Prelude.{Done, IsLeft}
 use Rattle.acts.proofs.Left.{left_scan}
-use Rattle.body_meaning.specs.Reading.{Reading}
-use Rattle.body_meaning.specs.declared.round.RoundEnd.{RoundEnd}
-use Rattle.body_meaning.specs.declared.round.RoundEnd.TheVariants as round
-use Rattle.body_meaning.specs.declared.tried.Tried.{Tried}
-use Rattle.body_meaning.specs.declared.tried.Tried.TheVariants.{Fires, Waits}
-use Rattle.body_meaning.specs.Round.{IsRoundOf}
-use Rattle.body_meaning.specs.Scan.{Scanned, by_outcome, by_try, ports_tried}
-use Rattle.body_meaning.specs.Trying.{run_scan}
-use Rattle.protocol_meaning.specs.Meaning.{scan_by, scan_of}
-use Rattle.protocol_meaning.specs.Readings.{reading_of}
+use Rattle.body_meaning.specs.Prelude.{Reading, IsRoundOf, Scanned, by_outcome, by_try, ports_tried, run_scan}
+use Rattle.body_meaning.specs.declared.frame.RoundEnd.{RoundEnd}
+use Rattle.body_meaning.specs.declared.frame.RoundEnd.TheVariants as round
+use Rattle.body_meaning.specs.declared.frame.Tried.{Tried}
+use Rattle.body_meaning.specs.declared.frame.Tried.TheVariants.{Fires, Waits}
+use Rattle.protocol_meaning.specs.Prelude.{scan_by, scan_of, reading_of, StaysIfFired}
 use Rattle.protocol_meaning.proofs.Tries.{scan_leaves}
-use Rattle.protocol_meaning.specs.Rounds.{StaysIfFired}
 
 module _ (v w : LocalView) (note : FireNote) where
   abbrev FiresIn : Scanned → Type 0

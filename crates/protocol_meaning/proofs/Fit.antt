@@ -11,23 +11,14 @@ use Rattle.ruby_value.specs.declared.setup.MachineSetup.{MachineSetup}
 use Rattle.ruby_value.specs.declared.setup.Sizes.{Sizes}
 use Rattle.slicc_ast.specs.declared.tree.item.Tree.{Tree}
 use Rattle.slicc_ast.specs.declared.tree.machine.Machine.{Machine}
-use Rattle.slicc_plan.specs.Declarations.{machines_of}
-use Rattle.slicc_plan.specs.Setups.{AreSizesOf, HasTypeOf, setup_in, setup_of}
-use Rattle.slicc_plan.specs.SymbolsOf.{symbols_of}
-use Rattle.slicc_plan.specs.SymbolsOfMachines.{machine_symbols}
-use Rattle.slicc_plan.specs.Lawful.{HasNetworks, HasNumbers, ReceivesOnce}
-use Rattle.ctl_face.specs.IsMachine.{IsMachine}
-use Rattle.ctl_face.specs.RoutesFit.{AgreeOnTypes, AreNumbered, HasShape, IsOfMachine, KeepsOrder, NamesBuffers, ReceivesFrom, RoutesFit}
-use Rattle.ruby_topology.specs.declared.statement.Member.{Member}
-use Rattle.ruby_topology.specs.declared.statement.Statement.{Statement}
+use Rattle.slicc_plan.specs.Prelude.{machines_of, AreSizesOf, HasTypeOf, setup_in, setup_of, symbols_of, machine_symbols, HasNetworks, HasNumbers, ReceivesOnce}
+use Rattle.ctl_face.specs.Prelude.{IsMachine, AgreeOnTypes, AreNumbered, HasShape, IsOfMachine, KeepsOrder, NamesBuffers, ReceivesFrom, RoutesFit}
+use Rattle.ruby_topology.specs.declared.forms.Member.{Member}
+use Rattle.ruby_topology.specs.declared.forms.Statement.{Statement}
 use Rattle.ruby_topology.specs.declared.topology.Topology.{Topology}
-use Rattle.ruby_topology.specs.Paths.{AreRows}
-use Rattle.ruby_topology.specs.Search.{IsBetween}
-use Rattle.ruby_topology.specs.Topology.{HasParts, is_ordered_on, links_of, members_from, network_of, receiving_at, receiving_of, sizes_of}
-use Rattle.ruby_topology.specs.Within.{IsWithin}
+use Rattle.ruby_topology.specs.Prelude.{AreRows, IsBetween, HasParts, is_ordered_on, links_of, members_from, network_of, receiving_at, receiving_of, sizes_of, IsWithin}
 use Rattle.ruby_topology.proofs.Totals.{length_of_members, links_between, links_short, network_within}
-use Rattle.protocol_meaning.specs.FitsPlan.{AreSeatsOf, AreSizesIn, AreSizesOfAll, FitsPlan}
-use Rattle.protocol_meaning.specs.Setups.{ranges_of, setups_of}
+use Rattle.protocol_meaning.specs.Prelude.{AreSeatsOf, AreSizesIn, AreSizesOfAll, FitsPlan, ranges_of, setups_of}
 use Rattle.machine_setup.proofs.Lawful.{all_alike}
 use Rattle.protocol_meaning.proofs.Counts.{jitter_small}
 use Rattle.protocol_meaning.proofs.Lines.{AreKnown, IsSound}

@@ -2,25 +2,16 @@
 use Rattle.std.proofs.Common.{◌≡◌, ◌≤◌, ℕ, All, List, Some, length, slice_get}
 use Rattle.run_journal.specs.declared.entry.Entry.{Entry}
 use Rattle.run_journal.specs.declared.event.Event.{Event}
-use Rattle.protocol_runs.specs.Run.{IsRun}
-use Rattle.protocol_runs.specs.World.{Place, World}
+use Rattle.protocol_runs.specs.Prelude.{IsRun, Place, World, IsSetting, rules, Setting}
 use Rattle.slicc_ast.specs.declared.tree.item.Tree.{Tree}
-use Rattle.slicc_plan.specs.AllRules.{IsAccepted}
+use Rattle.slicc_plan.specs.Prelude.{IsAccepted}
 use Rattle.ruby_topology.specs.declared.topology.Topology.{Topology}
-use Rattle.ctl_face.specs.Ctl.{Ctl}
-use Rattle.ctl_face.specs.Fits.{last_cycle}
+use Rattle.ctl_face.specs.Prelude.{Ctl, last_cycle}
 use Rattle.sequencer.specs.Drive as own
-use Rattle.sequencer.specs.Seats.{Seat}
-use Rattle.protocol_meaning.specs.FitsPlan.{FitsPlan}
-use Rattle.protocol_meaning.specs.Setups.{ranges_of}
-use Rattle.protocol_runs.specs.IsSetting.{IsSetting}
-use Rattle.protocol_runs.specs.Rules.{rules}
-use Rattle.protocol_runs.specs.Setting.{Setting}
+use Rattle.sequencer.specs.Prelude.{Seat}
+use Rattle.protocol_meaning.specs.Prelude.{FitsPlan, ranges_of, meaning_of, setting_of, ControllerWithin, EntryWithin}
 use Rattle.protocol_runs.proofs.Driver.{IsDriver}
-use Rattle.protocol_meaning.specs.Meaning.{meaning_of}
-use Rattle.protocol_meaning.specs.Setting.{setting_of}
 use Rattle.protocol_meaning.proofs.Settings.{is_setting}
-use Rattle.protocol_meaning.specs.Runs.{ControllerWithin, EntryWithin}
 use Rattle.protocol_meaning.proofs.Machines.{machine_within}
 use Rattle.protocol_meaning.proofs.Runs.{controllers_within, entries_within}
 

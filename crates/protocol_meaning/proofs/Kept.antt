@@ -13,18 +13,12 @@ use Rattle.ruby_symbols.specs.declared.machine.TableSymbol.{TableSymbol}
 use Rattle.ruby_symbols.specs.declared.types.FieldSymbol.{FieldSymbol}
 use Rattle.slicc_ast.specs.declared.tree.item.Tree.{Tree}
 use Rattle.slicc_ast.specs.declared.tree.machine.Machine.{Machine}
-use Rattle.slicc_plan.specs.Declarations.{Declaration, object, parameter, machine_declarations, machines_of}
-use Rattle.slicc_plan.specs.MachineValues.{values_of}
-use Rattle.slicc_plan.specs.Setups.{parameter_table, range_values, setup_in, setup_of, tables_from, values_from}
-use Rattle.slicc_plan.specs.SymbolsOf.{symbols_of}
-use Rattle.slicc_plan.specs.SymbolsOfMachines.{machine_symbols, table_of_sort, table_symbol}
-use Rattle.slicc_plan.specs.Tables.{table_in, tables_of}
+use Rattle.slicc_plan.specs.Prelude.{Declaration, object, parameter, machine_declarations, machines_of, values_of, parameter_table, range_values, setup_in, setup_of, tables_from, values_from, symbols_of, machine_symbols, table_of_sort, table_symbol, table_in, tables_of}
 use Rattle.slicc_plan.proofs.Machines.{symbols_at, symbols_counted}
 use Rattle.slicc_plan.proofs.There.{get_right}
 use Rattle.built_in_acts.specs.declared.machines.KeptMachines.{KeptMachines}
-use Rattle.body_meaning.specs.Reading.{Reading}
-use Rattle.protocol_meaning.specs.Kept.{IsKept, KeepsRanges, kept_value}
-use Rattle.protocol_meaning.specs.Readings.{kept_machines, reading_of, reading_with}
+use Rattle.body_meaning.specs.Prelude.{Reading}
+use Rattle.protocol_meaning.specs.Prelude.{IsKept, KeepsRanges, kept_value, kept_machines, reading_of, reading_with}
 
 -- Symbols of machines.
 

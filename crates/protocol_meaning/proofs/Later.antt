@@ -2,25 +2,16 @@
 use Rattle.std.proofs.Common.{◌≡◌, ◌∙◌, ◌∷◌, ℕ, Bool, true, false, List, Result, Ok, Err, nat_le, refl, sym, ap, subst}
 use Rattle.ruby_value.specs.declared.fault.Fault.{Fault}
 use Rattle.run_journal.specs.declared.entry.StopAt.{StopAt}
-use Rattle.ctl_face.specs.Again.{again}
-use Rattle.ctl_face.specs.Ctl.{Ctl}
-use Rattle.ctl_face.specs.Fits.{IsLawful}
-use Rattle.ctl_face.specs.LocalView.{Actor, LocalView, SameScan}
-use Rattle.acts.specs.Act.{Act, Again, answer}
-use Rattle.acts.specs.Acting.{Acting, ends as ends_body, acts as acts_in, follow, run}
-use Rattle.acts.specs.After.{HoldsAfter}
-use Rattle.acts.specs.Done.{Done, does}
-use Rattle.acts.specs.Added.{Added, AreNew, IsNew, after_adding, with_added}
+use Rattle.ctl_face.specs.Prelude.{again, Ctl, IsLawful, Actor, LocalView, SameScan}
+use Rattle.acts.specs.Prelude.{Act, Again, answer, Acting, ends as ends_body, acts as acts_in, follow, run, HoldsAfter, Done, does, Added, AreNew, IsNew, after_adding, with_added}
 use Rattle.acts.proofs.Framed.{frame}
 use Rattle.acts.proofs.Instances.{stays_in_scan, stays_lawful}
-use Rattle.body_meaning.specs.Reading.{Reading}
-use Rattle.body_meaning.specs.declared.round.RoundEnd.TheVariants.{Idle}
-use Rattle.body_meaning.specs.declared.tried.Known.{Known}
-use Rattle.body_meaning.specs.declared.tried.Tried.{Tried}
-use Rattle.body_meaning.specs.declared.tried.Tried.TheVariants.{Waits, Fires}
-use Rattle.body_meaning.specs.Scan.{Scanned, by_outcome, by_try, left_idle, pairs_tried, ports_tried, scan}
-use Rattle.body_meaning.specs.Trying.{Pair, Trying, ends, stops, acts, looks_up, follow_pairs, follow_scan, pairs_of, run_scan}
-use Rattle.protocol_meaning.specs.Adding.{scanned_with}
+use Rattle.body_meaning.specs.Prelude.{Reading, Scanned, by_outcome, by_try, left_idle, pairs_tried, ports_tried, scan, Pair, Trying, ends, stops, acts, looks_up, follow_pairs, follow_scan, pairs_of, run_scan}
+use Rattle.body_meaning.specs.declared.frame.RoundEnd.TheVariants.{Idle}
+use Rattle.body_meaning.specs.declared.frame.Known.{Known}
+use Rattle.body_meaning.specs.declared.frame.Tried.{Tried}
+use Rattle.body_meaning.specs.declared.frame.Tried.TheVariants.{Waits, Fires}
+use Rattle.protocol_meaning.specs.Prelude.{scanned_with}
 use Rattle.protocol_meaning.proofs.Left.{does_again}
 
 -- One act, as a body.

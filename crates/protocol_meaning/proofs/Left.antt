@@ -1,17 +1,12 @@
 -- What a scan leaves is what acts leave.
 use Rattle.std.proofs.Common.{◌≡◌, ℕ, Bool, true, false, Result, Ok, Err, nat_le, refl}
 use Rattle.run_journal.specs.declared.entry.StopAt.{StopAt}
-use Rattle.ctl_face.specs.Again.{again}
-use Rattle.ctl_face.specs.LocalView.{LocalView}
-use Rattle.acts.specs.Act.{Again}
-use Rattle.acts.specs.Done.{Done, does}
-use Rattle.acts.specs.Left.{IsLeft}
+use Rattle.ctl_face.specs.Prelude.{again, LocalView}
+use Rattle.acts.specs.Prelude.{Again, Done, does, IsLeft}
 use Rattle.acts.proofs.Left.{left_by_act, left_here}
-use Rattle.body_meaning.specs.Reading.{Reading}
-use Rattle.body_meaning.specs.declared.tried.Tried.{Tried}
-use Rattle.body_meaning.specs.declared.tried.Tried.TheVariants.{Waits, Fires}
-use Rattle.body_meaning.specs.Scan.{by_outcome, by_try, left_idle, ports_tried, scan}
-use Rattle.body_meaning.specs.Trying.{run_scan}
+use Rattle.body_meaning.specs.Prelude.{Reading, by_outcome, by_try, left_idle, ports_tried, scan, run_scan}
+use Rattle.body_meaning.specs.declared.frame.Tried.{Tried}
+use Rattle.body_meaning.specs.declared.frame.Tried.TheVariants.{Waits, Fires}
 use Rattle.protocol_meaning.proofs.Tries.{scan_leaves}
 
 pub does_again : (v : LocalView) → does Again v ≡ Ok (record { value = tt; view = again v })

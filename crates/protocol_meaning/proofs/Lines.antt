@@ -16,19 +16,16 @@ use Rattle.ruby_symbols.specs.declared.machine.TableSort.{TableSort}
 use Rattle.ruby_symbols.specs.declared.machine.TableSort.TheVariants as sort
 use Rattle.ruby_symbols.specs.declared.symbols.Symbols.{Symbols}
 use Rattle.ruby_symbols.specs.declared.types.FieldSymbol.{FieldSymbol}
-use Rattle.ruby_symbols.specs.Names.{machine_named, stands_for}
+use Rattle.ruby_symbols.specs.Prelude.{machine_named, stands_for}
 use Rattle.ruby_topology.specs.declared.forms.Form.{Form}
 use Rattle.ruby_topology.specs.declared.forms.Form.TheVariants as form
-use Rattle.ruby_topology.specs.declared.rules.TheConstants.{T2_NUMBER, T3_NAME, T4_TWICE, T6_TOO_MANY}
-use Rattle.ruby_topology.specs.declared.statement.Network.TheVariants.{PointToPoint, Crossbar, Mesh, Links}
-use Rattle.ruby_topology.specs.declared.statement.Statement.{Statement}
-use Rattle.ruby_topology.specs.declared.statement.Statement.TheVariants.{Machine, Network, Link, Jitter, Ordered, Cache, Tbes, Set}
-use Rattle.ruby_topology.specs.Forms.{form_of}
-use Rattle.ruby_topology.specs.Lines.{Reading, Says, added, after_those, cache_in, cache_line, cache_named, crossbar_line, in_machine, is_int, jitter_line, judged, link_line, machine_line, mesh_line, needs, number_at, number_in, number_named, ordered_line, point_to_point_line, read_from, reading, says_in, set_line, sort_at, table_in, tbes_in, tbes_line, tbes_named, value_in, with_line}
-use Rattle.ruby_topology.specs.Members.{member_named}
-use Rattle.ruby_topology.specs.Said.{controllers, counted, is_links, is_said, network_said, sets_value, sizes_table}
-use Rattle.ruby_topology.specs.Text.{before_comment, is_digit, is_number_within, is_some_word, value_of, word_at, words_of}
-use Rattle.ruby_topology.specs.Within.{IsWithin}
+use Rattle.ruby_topology.specs.declared.forms.TheConstants.{T2_NUMBER, T3_NAME, T4_TWICE, T6_TOO_MANY}
+use Rattle.ruby_topology.specs.declared.forms.Network.TheVariants.{PointToPoint, Crossbar, Mesh, Links}
+use Rattle.ruby_topology.specs.declared.forms.Statement.{Statement}
+use Rattle.ruby_topology.specs.declared.forms.Statement.TheVariants.{Machine, Network, Link, Jitter, Ordered, Cache, Tbes, Set}
+use Rattle.ruby_topology.specs.Prelude.{form_of, Reading, Says, added, after_those, cache_in, cache_line, cache_named, crossbar_line, in_machine, is_int, jitter_line, judged, link_line, machine_line, mesh_line, needs, number_at, number_named, ordered_line, point_to_point_line, read_from, reading, says_in, set_line, sort_at, table_in, tbes_in, tbes_line, tbes_named, value_in, with_line, member_named, controllers, counted, is_links, is_said, network_said, sets_value, sizes_table, before_comment, is_digit, is_number_within, is_some_word, word_at, words_of, IsWithin}
+use Rattle.ruby_topology.specs.Lines.{number_in}
+use Rattle.ruby_topology.specs.Text.{value_of}
 use Rattle.protocol_meaning.proofs.Places.{and_then_found}
 
 -- The table or number that a line is about is one of its machine.

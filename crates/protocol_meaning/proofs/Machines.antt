@@ -36,49 +36,24 @@ use Rattle.slicc_ast.specs.declared.tree.name.Name.{Name}
 use Rattle.slicc_plan.specs.declared.broken.Broken.{Broken}
 use Rattle.slicc_plan.specs.declared.broken.Rule.TheVariants.{NoStates}
 use Rattle.slicc_plan.specs.declared.built_in.BuiltInType.TheVariants.{Cycles}
-use Rattle.slicc_plan.specs.AllRules.{IsAccepted}
-use Rattle.slicc_plan.specs.BodySizes.{large_bodies}
-use Rattle.slicc_plan.specs.BuiltIn.{permissions}
-use Rattle.slicc_plan.specs.Buffers.{is_same_scope}
-use Rattle.slicc_plan.specs.CallsBetween.{call_circles}
-use Rattle.slicc_plan.specs.Declarations.{Declaration, machine, enumeration, states, parameter, object, symbol, state, member, within, global_declarations, is_named, machine_declarations, machines_of}
+use Rattle.slicc_plan.specs.Prelude.{IsAccepted, large_bodies, permissions, is_same_scope, call_circles, Declaration, machine, states, parameter, object, symbol, state, member, within, global_declarations, is_named, machine_declarations, machines_of, initial_value, event_members, is_enumeration, is_events, is_states, members_in, members_of_found, state_members, is_empty, missing_machine, missing_parts, missing_parts_in, literal_value, value_in, value_of_kind, values_of, written_value, function_named, includes, in_each_from, next_number, number_among, numbers_among, transitions_of, with_number, written, wrong_networks, reading_changes, default_state, first_state, opening_value, parameter_table, range_values, set_value, setup_in, table_of_lines, table_setup, table_size, tables_from, values_from, wrong_state_functions, machines_from, symbols_of, structure_symbols, machine_symbols, number_of_found, permission_number, permissions_found, transition_symbol, line_structure, tables_of, ScopedDeclaration, declared_number, declares, is_known_as, made_in, no_structure, plain_kind, shared_pairs, KnownType, enumerated, is_built_in, type_in}
+use Rattle.slicc_plan.specs.Declarations.{enumeration}
 use Rattle.slicc_plan.specs.FieldTypes.{field_of}
-use Rattle.slicc_plan.specs.InitialFields.{initial_value}
-use Rattle.slicc_plan.specs.Limits.{event_members, is_enumeration, is_events, is_states, members_in, members_of_found, state_members}
-use Rattle.slicc_plan.specs.MachineParts.{is_empty, missing_machine, missing_parts, missing_parts_in}
-use Rattle.slicc_plan.specs.MachineValues.{literal_value, value_in, value_of_kind, values_of, written_value}
-use Rattle.slicc_plan.specs.Machines.{function_named, includes, in_each_from, names_in as names_written, next_number, number_among, numbers_among, transitions_of, with_number, written}
-use Rattle.slicc_plan.specs.Networks.{wrong_networks}
-use Rattle.slicc_plan.specs.ReadOnly.{reading_changes}
-use Rattle.slicc_plan.specs.Setups.{default_state, first_state, opening_value, parameter_table, range_values, set_value, setup_in, table_of_lines, table_setup, table_size, tables_from, values_from}
-use Rattle.slicc_plan.specs.StateFunctions.{wrong_state_functions}
-use Rattle.slicc_plan.specs.SymbolsOf.{machines_from, symbols_of}
-use Rattle.slicc_plan.specs.SymbolsOfTypes.{structure_symbols}
-use Rattle.slicc_plan.specs.SymbolsOfMachines.{machine_symbols, number_of_found, permission_number, permissions_found, transition_symbol}
-use Rattle.slicc_plan.specs.Tables.{line_structure, tables_of}
-use Rattle.slicc_plan.specs.TypeNumbers.{ScopedDeclaration, declared_number, declares, is_known_as, made_in, no_structure, plain_kind}
-use Rattle.slicc_plan.specs.TwoTransitions.{shared_pairs}
-use Rattle.slicc_plan.specs.Types.{KnownType, enumerated, is_built_in, type_in}
+use Rattle.slicc_plan.specs.Machines.{names_in as names_written}
 use Rattle.slicc_plan.proofs.Room.{left_none, right_none}
-use Rattle.ctl_face.specs.Opening.{opening_table}
-use Rattle.ctl_face.specs.RoutesFit.{AreNumbered}
+use Rattle.ctl_face.specs.Prelude.{opening_table, AreNumbered}
 use Rattle.ctl_face.proofs.Lines.{All-found}
 use Rattle.ruby_topology.specs.declared.topology.Topology.{Topology}
-use Rattle.protocol_meaning.specs.FitsPlan.{AreSizesIn, FitsPlan}
-use Rattle.protocol_meaning.specs.Setups.{ranges_of, setups_of}
+use Rattle.protocol_meaning.specs.Prelude.{AreSizesIn, FitsPlan, ranges_of, setups_of, IsKept, KeepsRanges, kept_value, reading_of, reading_with, AreWithin, Extent, IsMember, IsWithin, members_of, declared_extent}
 use Rattle.protocol_meaning.proofs.ByNumber.{setup_found, setups_counted, symbols_found}
 use Rattle.protocol_meaning.proofs.Places.{any_get, any_position, at_position}
 use Rattle.protocol_runs.proofs.Ranges.{first-free}
-use Rattle.body_meaning.specs.Reading.{Reading}
-use Rattle.protocol_meaning.specs.Kept.{IsKept, KeepsRanges, kept_value}
-use Rattle.protocol_meaning.specs.Readings.{reading_of, reading_with}
+use Rattle.body_meaning.specs.Prelude.{Reading}
 use Rattle.protocol_meaning.proofs.Kept.{ranges_are_kept}
 use Rattle.slicc_plan.proofs.Machines.{symbols_counted}
 use Rattle.slicc_plan.proofs.There.{There, found_passes, get_right, in_machine, machine_there, there_found}
-use Rattle.protocol_meaning.specs.Extent.{AreWithin, Extent, IsMember, IsWithin, members_of}
 use Rattle.protocol_meaning.proofs.Bounds.{Bounds}
 use Rattle.protocol_meaning.proofs.Reading.{ReadingWithin, TransitionWithin, bounds_of}
-use Rattle.protocol_meaning.specs.Runs.{declared_extent}
 use Rattle.protocol_meaning.proofs.OfMachine.{MachineWithin}
 use Rattle.protocol_meaning.proofs.Setting.{HasRange}
 use Rattle.protocol_meaning.proofs.Declared.{L, as_enumeration, counted, listed, names_in, text_in}

@@ -5,7 +5,7 @@ use Rattle.std.proofs.lemmas.List.Elements.{All-nil, All-cons, All-contains, All
 use Rattle.std.specs.List.{fold, list_all}
 use Rattle.std.specs.Option.{ok_or}
 use Rattle.ruby_value.specs.declared.fault.Fault.{Fault}
-use Rattle.ruby_value.specs.declared.fault.Fault.TheVariants.{Copies, Front as NoFront, Latency, Route}
+use Rattle.ruby_value.specs.declared.fault.Fault.TheVariants.{Copies, Front, Latency, Route}
 use Rattle.ruby_value.specs.declared.message.Delivery.{Delivery}
 use Rattle.ruby_value.specs.declared.message.Message.{Message}
 use Rattle.ruby_value.specs.declared.message.MsgNo.{MsgNo}
@@ -13,28 +13,12 @@ use Rattle.ruby_value.specs.declared.setup.BufferPlace.{BufferPlace}
 use Rattle.ruby_value.specs.declared.setup.BufferPlace.TheVariants as place
 use Rattle.ruby_value.specs.declared.setup.BufferSetup.{BufferSetup}
 use Rattle.ruby_value.specs.declared.value.Value.{Value}
-use Rattle.ruby_value.specs.NumberBefore.{same_number}
-use Rattle.ctl_face.specs.Acts.{Acts}
-use Rattle.ctl_face.specs.Again.{again}
-use Rattle.ctl_face.specs.AtFront.{after_front, at_front}
-use Rattle.ctl_face.specs.Ctl.{InboxMessage, Mail}
-use Rattle.ctl_face.specs.Enqueue.{after_sending, enqueue, for_others}
-use Rattle.ctl_face.specs.Front.{IsFront, front}
-use Rattle.ctl_face.specs.Latency.{is_latency}
-use Rattle.ctl_face.specs.LocalView.{Actor, LocalView}
-use Rattle.ctl_face.specs.Mailing.{incoming_message, mail_with_delivery}
-use Rattle.ctl_face.specs.Pop.{mail_without, pop}
-use Rattle.ctl_face.specs.Ready.{front_now, required_front}
-use Rattle.ctl_face.specs.Recycle.{mail_with_recycled, message_arriving_again, recycle}
-use Rattle.ctl_face.specs.Routing.{receiving_buffer}
-use Rattle.ctl_face.specs.Send.{Sending, copy_limit, local_arrival, local_copy, network_arrival, next_copy, no_copies, receivers_of, send, sending_from, sending_on, with_network_copy}
-use Rattle.ctl_face.specs.Stall.{mail_with_waiting, message_waiting_under, stall}
-use Rattle.ctl_face.specs.Wake.{is_under, message_waiting_no_longer, wake, wake_all, with_woken, woken_mail}
+use Rattle.ruby_value.specs.Prelude.{same_number}
+use Rattle.ctl_face.specs.Prelude.{Acts, again, after_front, at_front, InboxMessage, Mail, after_sending, enqueue, for_others, IsFront, front, is_latency, Actor, LocalView, incoming_message, mail_with_delivery, mail_without, pop, front_now, required_front, mail_with_recycled, message_arriving_again, recycle, receiving_buffer, Sending, copy_limit, local_arrival, local_copy, network_arrival, next_copy, no_copies, receivers_of, send, sending_from, sending_on, with_network_copy, mail_with_waiting, message_waiting_under, stall, is_under, message_waiting_no_longer, wake, wake_all, with_woken, woken_mail}
 use Rattle.ctl_face.proofs.Cases.{Good, good_ok, good_err, good_cond}
 use Rattle.ctl_face.proofs.Fronts.{front_first}
 use Rattle.ctl_face.proofs.Inboxes.{all-map, all-with, all-without}
-use Rattle.protocol_meaning.specs.Extent.{Extent, AreWithin}
-use Rattle.protocol_meaning.specs.Held.{MessageWithin}
+use Rattle.protocol_meaning.specs.Prelude.{Extent, AreWithin, MessageWithin}
 use Rattle.protocol_meaning.proofs.Bounds.{Bounds, CopyWithin, ViewWithin}
 
 module _ (e : Extent) where
@@ -124,7 +108,7 @@ module _ (b : Bounds) (v : LocalView) (is : ViewWithin b v) where
 
   front_within : (told : MsgNo → Acts) (change : Message → Mail) (o : Option Message) → ((n : MsgNo) → All (CopyWithin b) (told n).posted)
       → ((m : Message) → All (MessageWithin b.extent) (change m).inbox) → Good (ViewWithin b) (after_front v told (at_front change o))
-  front_within told change None posted keeps = good_err (ViewWithin b) NoFront
+  front_within told change None posted keeps = good_err (ViewWithin b) Front
   front_within told change (Some m) posted keeps = good_ok (ViewWithin b) _ (mail_within (change m) (told m.number) (keeps m) (posted m.number))
 
   pub pop_keeps : (buffer : ℕ) → Good (ViewWithin b) (pop v buffer)
@@ -179,8 +163,8 @@ module _ (b : Bounds) (v : LocalView) (is : ViewWithin b v) where
   abbrev Read : Message → Type 0
   Read m = AreWithin b.extent m.fields
 
-  found : (o : Option Message) → IfSome o Read → Good Read (ok_or o NoFront)
-  found None here = good_err Read NoFront
+  found : (o : Option Message) → IfSome o Read → Good Read (ok_or o Front)
+  found None here = good_err Read Front
   found (Some m) here = good_ok Read m here
 
   pub front_reads : (buffer : ℕ) → Good Read (required_front v buffer)

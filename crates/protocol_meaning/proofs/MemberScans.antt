@@ -4,36 +4,27 @@ use Rattle.std.proofs.lemmas.Bool.{and_parts, cond_both, eqb-true}
 use Rattle.std.proofs.lemmas.List.Elements.{All-cons, All-head, All-nil, All-tail}
 use Rattle.ruby_value.specs.declared.fault.Fault.{Fault}
 use Rattle.ruby_value.specs.declared.value.Value.{Value}
-use Rattle.ruby_value.specs.Lines.{line_of}
+use Rattle.ruby_value.specs.Prelude.{line_of}
 use Rattle.ruby_symbols.specs.declared.machine.PortSymbol.{PortSymbol}
 use Rattle.ruby_symbols.specs.declared.machine.TableSymbol.{TableSymbol}
 use Rattle.ruby_symbols.specs.declared.machine.TransitionSymbol.{TransitionSymbol}
 use Rattle.ruby_symbols.specs.declared.states.StateArgument.{StateArgument}
 use Rattle.ruby_symbols.specs.declared.states.StateArgument.TheVariants.{Tbe, Entry, Address, State}
-use Rattle.ruby_symbols.specs.States.{get_state_arguments, set_permission_arguments, set_state_arguments}
+use Rattle.ruby_symbols.specs.Prelude.{get_state_arguments, set_permission_arguments, set_state_arguments}
 use Rattle.run_journal.specs.declared.entry.StopAt.{StopAt}
-use Rattle.ctl_face.specs.Again.{again}
-use Rattle.ctl_face.specs.LocalView.{LocalView}
+use Rattle.ctl_face.specs.Prelude.{again, LocalView}
 use Rattle.acts.specs.Act as act
-use Rattle.acts.specs.Act.{Act, answer}
-use Rattle.acts.specs.Acting.{Acting, ends as ends_body, stops as stops_body, acts as acts_in, fault_of}
-use Rattle.acts.specs.Done.{Done, does}
+use Rattle.acts.specs.Prelude.{Act, answer, Acting, ends as ends_body, stops as stops_body, acts as acts_in, fault_of, Done, does}
 use Rattle.body_meaning.specs.declared.frame.About.{About}
 use Rattle.body_meaning.specs.declared.frame.Flow.{Flow}
 use Rattle.body_meaning.specs.declared.frame.Flow.TheVariants.{WentOn, Returned, Triggered}
 use Rattle.body_meaning.specs.declared.thing.Trigger.{Trigger}
-use Rattle.body_meaning.specs.Each.{each}
-use Rattle.body_meaning.specs.Reading.{Reading}
-use Rattle.body_meaning.specs.Things.{value_in}
-use Rattle.body_meaning.specs.declared.round.RoundEnd.TheVariants as round
-use Rattle.body_meaning.specs.declared.tried.Known.{Known}
-use Rattle.body_meaning.specs.declared.tried.Tried.{Tried}
-use Rattle.body_meaning.specs.declared.tried.Tried.TheVariants.{Waits, Fires}
-use Rattle.body_meaning.specs.Actions.{body_of_action, need}
-use Rattle.body_meaning.specs.Scan.{after_port, by_outcome, by_try, left_idle, port_block, port_done, port_tried, ports_tried, scan, unless_fired}
-use Rattle.body_meaning.specs.Transition.{about, action_done, arguments_for, fired, found_tried, is_among, is_for, is_short, is_stall_among, known, permission_set, row_tried, state_argument, state_by, state_set, table_short, try, waiting}
-use Rattle.body_meaning.specs.Trying.{Trying, ends, stops, acts, looks_up, follow_scan, nothing_known, run_scan, stop_at, then_try, with_known}
-use Rattle.protocol_meaning.specs.Extent.{AreWithin, Extent, IsMember, IsWithin}
+use Rattle.body_meaning.specs.Prelude.{each, Reading, value_in, body_of_action, need, after_port, by_outcome, by_try, left_idle, port_block, port_done, port_tried, ports_tried, scan, unless_fired, about, action_done, arguments_for, fired, found_tried, is_among, is_for, is_short, is_stall_among, known, permission_set, row_tried, state_argument, state_by, state_set, table_short, try, waiting, Trying, ends, stops, acts, looks_up, follow_scan, nothing_known, run_scan, stop_at, then_try, with_known}
+use Rattle.body_meaning.specs.declared.frame.RoundEnd.TheVariants as round
+use Rattle.body_meaning.specs.declared.frame.Known.{Known}
+use Rattle.body_meaning.specs.declared.frame.Tried.{Tried}
+use Rattle.body_meaning.specs.declared.frame.Tried.TheVariants.{Waits, Fires}
+use Rattle.protocol_meaning.specs.Prelude.{AreWithin, Extent, IsMember, IsWithin}
 use Rattle.protocol_meaning.proofs.Bounds.{Bounds, ViewWithin}
 use Rattle.protocol_meaning.proofs.Bodies.{AnswersWithin, AsksWithin, EndsWithin, Stays}
 use Rattle.protocol_meaning.proofs.Reading.{FlowWithin, ReadingWithin, TransitionWithin, bounds_of, extent_of}

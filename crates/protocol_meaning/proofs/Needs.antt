@@ -14,11 +14,10 @@ use Rattle.ruby_symbols.specs.declared.machine.MachineSymbols.{MachineSymbols}
 use Rattle.ruby_symbols.specs.declared.machine.TransitionSymbol.{TransitionSymbol}
 use Rattle.ruby_symbols.specs.declared.names.Named.{Named}
 use Rattle.ruby_symbols.specs.declared.names.Named.TheVariants.{Table, Value, Reference, Buffer, InPort, OutPort, Sequencer}
-use Rattle.ruby_symbols.specs.Names.{buffer_named, port_named, port_or_sequencer, sequencer_named, table_named}
-use Rattle.ruby_symbols.specs.Types.{field_named}
+use Rattle.ruby_symbols.specs.Prelude.{buffer_named, port_named, port_or_sequencer, sequencer_named, table_named, field_named}
 use Rattle.slicc_ast.specs.declared.tree.expression.Suffix.{Suffix, Field, Method', Index}
 use Rattle.slicc_ast.specs.declared.tree.expression.Expr.{Expr, Number, True, False, Nothing, Variable, Member, New, Call', Row_of-Expr, end_of-Expr, more_of-Expr, Row_of-Operand, end_of-Operand, more_of-Operand, Row_of-Suffix, end_of-Suffix, more_of-Suffix}
-use Rattle.slicc_ast.specs.Boxes.{Operation', Not', Negate', Postfix', IsValid', IsInvalid', Cast', Group'}
+use Rattle.slicc_ast.specs.Prelude.{Operation', Not', Negate', Postfix', IsValid', IsInvalid', Cast', Group'}
 use Rattle.slicc_ast.specs.declared.tree.item.Tree.{Tree}
 use Rattle.slicc_ast.specs.declared.tree.machine.Decl.{Decl}
 use Rattle.slicc_ast.specs.declared.tree.machine.Decl.TheVariants as decl
@@ -30,17 +29,12 @@ use Rattle.slicc_ast.specs.declared.tree.statement.Stmt.{Stmt, Declare, Assign, 
 use Rattle.slicc_plan.specs.declared.part.Body.{Body}
 use Rattle.slicc_plan.specs.declared.part.Part.{Part}
 use Rattle.slicc_plan.specs.declared.part.Part.TheVariants.{Plain}
-use Rattle.slicc_plan.specs.AllRules.{IsAccepted}
-use Rattle.slicc_plan.specs.BodyParts.{Names, Written, action_in, arguments_parts, assignment, bodies_of, body_of, call_part, changes_more, changing, check_in, check_part, expr_parts, free_changes, if_parts, is_one_of, name_in, names_in, number_in, operands_parts, optional_parts, others_parts, otherwise_parts, row_parts, stmt_parts, suffix_parts, suffixes_parts, written_actions}
-use Rattle.slicc_plan.specs.Declarations.{machines_of}
-use Rattle.slicc_plan.specs.SymbolsOf.{symbols_of}
-use Rattle.slicc_plan.specs.SymbolsOfMachines.{action_symbol, machine_symbols, numbered_from}
-use Rattle.slicc_plan.specs.TableNeeds.{checks_or_none, needs}
-use Rattle.slicc_plan.specs.Numbering.{HasSymbols, need_of}
+use Rattle.slicc_plan.specs.Prelude.{IsAccepted, Names, action_in, arguments_parts, assignment, bodies_of, body_of, call_part, changes_more, changing, check_in, check_part, expr_parts, free_changes, if_parts, is_one_of, name_in, number_in, operands_parts, optional_parts, others_parts, otherwise_parts, row_parts, stmt_parts, suffix_parts, suffixes_parts, written_actions, machines_of, symbols_of, action_symbol, machine_symbols, numbered_from, checks_or_none, needs, HasSymbols}
+use Rattle.slicc_plan.specs.BodyParts.{Written, names_in}
+use Rattle.slicc_plan.specs.Numbering.{need_of}
 use Rattle.slicc_plan.proofs.Numbering.{actions_written, needs_by_symbols, one_numbering, symbols_are}
-use Rattle.body_meaning.specs.Reading.{Reading}
-use Rattle.body_meaning.specs.Actions.{action_block, block_checked, block_of, body_of_action, checked, if_checked, is_table, names_table, need, others_checked, otherwise_checked, row_checked}
-use Rattle.protocol_meaning.specs.Readings.{reading_of, reading_with}
+use Rattle.body_meaning.specs.Prelude.{Reading, action_block, block_checked, block_of, body_of_action, checked, if_checked, is_table, names_table, need, others_checked, otherwise_checked, row_checked}
+use Rattle.protocol_meaning.specs.Prelude.{reading_of, reading_with}
 
 -- Statements: what a body has of checks is what its `check_allocate` statements name.
 

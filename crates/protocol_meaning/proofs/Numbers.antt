@@ -8,10 +8,10 @@ use Rattle.std.proofs.lemmas.List.{length-map}
 use Rattle.std.proofs.lemmas.List.Elements.{All-head, All-tail}
 use Rattle.std.proofs.lemmas.List.FromFn.{length-range_with_len}
 use Rattle.std.proofs.lemmas.List.Sums.{sum_by-cons}
-use Rattle.ctl_face.specs.RoutesFit.{AreNumbered, IsOfMachine}
-use Rattle.protocol_runs.specs.Machines.{is_in_range}
-use Rattle.ruby_topology.specs.declared.statement.Member.{Member}
-use Rattle.ruby_topology.specs.Topology.{members_from, members_of, ranges_from}
+use Rattle.ctl_face.specs.Prelude.{AreNumbered, IsOfMachine}
+use Rattle.protocol_runs.specs.Prelude.{is_in_range}
+use Rattle.ruby_topology.specs.declared.forms.Member.{Member}
+use Rattle.ruby_topology.specs.Prelude.{members_from, members_of, ranges_from}
 use Rattle.slicc_plan.proofs.There.{get_left, get_right}
 use Rattle.protocol_meaning.proofs.Places.{position_first, position_next, ranged_at}
 

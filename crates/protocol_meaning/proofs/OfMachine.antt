@@ -8,12 +8,9 @@ use Rattle.ruby_value.specs.declared.value.Value.{Value}
 use Rattle.ruby_symbols.specs.declared.machine.MachineSymbols.{MachineSymbols}
 use Rattle.slicc_ast.specs.declared.tree.item.Tree.{Tree}
 use Rattle.slicc_ast.specs.declared.tree.machine.Machine.{Machine}
-use Rattle.slicc_plan.specs.SymbolsOf.{symbols_of}
-use Rattle.ctl_face.specs.Opening.{opening_table}
-use Rattle.ctl_face.specs.Table.{ParameterTable}
-use Rattle.protocol_meaning.specs.Readings.{reading_of, reading_with}
-use Rattle.protocol_meaning.specs.Extent.{AreWithin, IsMember, members_of}
-use Rattle.protocol_meaning.specs.Runs.{declared_extent}
+use Rattle.slicc_plan.specs.Prelude.{symbols_of}
+use Rattle.ctl_face.specs.Prelude.{opening_table, ParameterTable}
+use Rattle.protocol_meaning.specs.Prelude.{reading_of, reading_with, AreWithin, IsMember, members_of, declared_extent}
 use Rattle.protocol_meaning.proofs.Reading.{ReadingWithin}
 
 -- It has states and events, it is read within the extent, its tables begin within it, and the last one

@@ -6,14 +6,11 @@ use Rattle.std.proofs.lemmas.List.{get_or_default}
 use Rattle.std.proofs.lemmas.List.Elements.{All-nil}
 use Rattle.std.proofs.lemmas.Option.{slice_get-get_or, slice_get_past}
 use Rattle.ctl_face.specs.declared.routes.Routes.{Routes}
-use Rattle.ctl_face.specs.RoutesFit.{HasShape, longest_path}
-use Rattle.ctl_face.specs.Routing.{path_to}
-use Rattle.ruby_topology.specs.declared.statement.Link.{Link}
-use Rattle.ruby_topology.specs.declared.statement.Network.{Network}
-use Rattle.ruby_topology.specs.declared.statement.Network.TheVariants.{PointToPoint, Crossbar, Mesh, Links}
-use Rattle.ruby_topology.specs.Paths.{AreRows, IsPath, IsRow, column_of, distance, row_of, steps_between}
-use Rattle.ruby_topology.specs.Search.{IsBetween}
-use Rattle.ruby_topology.specs.Within.{IsNetworkWithin}
+use Rattle.ctl_face.specs.Prelude.{HasShape, longest_path, path_to}
+use Rattle.ruby_topology.specs.declared.forms.Link.{Link}
+use Rattle.ruby_topology.specs.declared.forms.Network.{Network}
+use Rattle.ruby_topology.specs.declared.forms.Network.TheVariants.{PointToPoint, Crossbar, Mesh, Links}
+use Rattle.ruby_topology.specs.Prelude.{AreRows, IsPath, IsRow, column_of, distance, row_of, steps_between, IsBetween, IsNetworkWithin}
 use Rattle.protocol_meaning.proofs.Ways.{least_is_small}
 
 or_nothing : (b : Bool) (n m : ℕ) → n ≤ m → cond b 0 n ≤ m

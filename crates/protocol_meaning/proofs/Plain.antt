@@ -12,30 +12,17 @@ use Rattle.ruby_value.specs.declared.setup.Sizes.{Sizes}
 use Rattle.ruby_symbols.specs.declared.machine.BufferSymbol.{BufferSymbol}
 use Rattle.ruby_symbols.specs.declared.machine.MachineSymbols.{MachineSymbols}
 use Rattle.ruby_symbols.specs.declared.symbols.Symbols.{Symbols}
-use Rattle.ruby_symbols.specs.Names.{carries_requests, has_port_on, is_mandatory, mandatory, takes_requests}
-use Rattle.ruby_symbols.specs.Numbers.{is_number, number_of}
-use Rattle.ruby_symbols.specs.Types.{request}
+use Rattle.ruby_symbols.specs.Prelude.{carries_requests, has_port_on, is_mandatory, mandatory, takes_requests, is_number, number_of, request}
 use Rattle.slicc_ast.specs.declared.tree.item.Tree.{Tree}
 use Rattle.slicc_ast.specs.declared.tree.machine.Machine.{Machine}
 use Rattle.slicc_plan.specs.declared.built_in.BuiltInType.TheVariants.{Request}
-use Rattle.slicc_plan.specs.AllRules.{IsAccepted}
-use Rattle.slicc_plan.specs.Buffers.{BufferIn, PortOn}
-use Rattle.slicc_plan.specs.Declarations.{machines_of}
-use Rattle.slicc_plan.specs.MessageTypes.{message_type, own_type, port_message}
-use Rattle.slicc_plan.specs.Networks.{all_ports, is_mandatory as is_mandatory_buffer}
-use Rattle.slicc_plan.specs.Setups.{setup_in}
-use Rattle.slicc_plan.specs.SymbolsOf.{symbols_of}
-use Rattle.slicc_plan.specs.SymbolsOfMachines.{machine_symbols}
-use Rattle.slicc_plan.specs.Types.{built_in}
-use Rattle.slicc_plan.specs.Lawful.{HasNumbers}
-use Rattle.protocol_runs.specs.IsSetting.{HasQueue, TakesRequests}
-use Rattle.protocol_runs.specs.Machines.{is_in_range, machine_of}
+use Rattle.slicc_plan.specs.Prelude.{IsAccepted, BufferIn, PortOn, machines_of, port_message, all_ports, is_mandatory as is_mandatory_buffer, setup_in, symbols_of, machine_symbols, built_in, HasNumbers}
+use Rattle.slicc_plan.specs.MessageTypes.{message_type, own_type}
+use Rattle.protocol_runs.specs.Prelude.{HasQueue, TakesRequests, is_in_range, machine_of}
 use Rattle.ruby_topology.specs.declared.topology.Seat.{Seat}
 use Rattle.ruby_topology.specs.declared.topology.Topology.{Topology}
-use Rattle.ruby_topology.specs.Topology.{HasParts, IsPlainOf, ranges_from}
-use Rattle.protocol_meaning.specs.FitsPlan.{ComesBefore, FitsPlan, IsSeat}
-use Rattle.protocol_meaning.specs.Seats.{queue_of, seat_setup}
-use Rattle.protocol_meaning.specs.Setups.{ranges_of}
+use Rattle.ruby_topology.specs.Prelude.{HasParts, IsPlainOf, ranges_from}
+use Rattle.protocol_meaning.specs.Prelude.{ComesBefore, FitsPlan, IsSeat, queue_of, seat_setup, ranges_of}
 use Rattle.protocol_meaning.proofs.Buffers.{buffers_paired, setup_of_symbol}
 use Rattle.protocol_meaning.proofs.Fit.{AreLawful, fits_with, sized, sizes_counted}
 use Rattle.protocol_meaning.proofs.Lines.{none_known}

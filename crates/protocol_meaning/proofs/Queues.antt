@@ -12,23 +12,17 @@ use Rattle.ruby_value.specs.declared.setup.BufferPlace.{BufferPlace}
 use Rattle.ruby_value.specs.declared.setup.BufferPlace.TheVariants as place
 use Rattle.ruby_value.specs.declared.setup.BufferSetup.{BufferSetup}
 use Rattle.ruby_symbols.specs.declared.machine.BufferSymbol.{BufferSymbol}
-use Rattle.ruby_symbols.specs.Names.{is_local, is_mandatory as is_mandatory_symbol}
+use Rattle.ruby_symbols.specs.Prelude.{is_local, is_mandatory as is_mandatory_symbol}
 use Rattle.slicc_ast.specs.declared.tree.item.Tree.{Tree}
 use Rattle.slicc_ast.specs.declared.tree.machine.Machine.{Machine}
 use Rattle.slicc_plan.specs.declared.built_in.BuiltInType.{BuiltInType}
 use Rattle.slicc_plan.specs.declared.built_in.BuiltInType.TheVariants.{Request}
-use Rattle.slicc_plan.specs.BuiltIn.{type_number}
-use Rattle.slicc_plan.specs.Buffers.{BufferIn, Place, own, to_network, from_network, PortOn, port_in, port_on, ports_of}
-use Rattle.slicc_plan.specs.Declarations.{Declaration, in_port, out_port, parameter, object, machine_declarations, machines_of}
-use Rattle.slicc_plan.specs.Limits.{is_sequencer}
-use Rattle.slicc_plan.specs.Machines.{in_each, in_each_from}
-use Rattle.slicc_plan.specs.MessageTypes.{is_on, message_type, own_type, port_message, type_at}
-use Rattle.slicc_plan.specs.Networks.{all_ports, all_ports_from, differing_after, doubled_in, has_sequencer, is_mandatory, is_no_request, is_sent_nowhere, is_wrong_way, port_broken, wrong_networks, wrong_ports_in}
-use Rattle.slicc_plan.specs.Setups.{buffer_place, kinds_on}
-use Rattle.slicc_plan.specs.SymbolsOfMachines.{machine_symbols, sequencer_in}
-use Rattle.slicc_plan.specs.Types.{KnownType, built_in, enumerated, structured, is_built_in}
+use Rattle.slicc_plan.specs.Prelude.{type_number, BufferIn, Place, own, to_network, from_network, PortOn, port_on, ports_of, Declaration, parameter, object, machine_declarations, machines_of, is_sequencer, in_each, in_each_from, is_on, port_message, type_at, all_ports, all_ports_from, differing_after, doubled_in, has_sequencer, is_mandatory, is_no_request, is_sent_nowhere, is_wrong_way, port_broken, wrong_networks, wrong_ports_in, buffer_place, kinds_on, machine_symbols, sequencer_in, KnownType, built_in, enumerated, structured, is_built_in}
+use Rattle.slicc_plan.specs.Buffers.{port_in}
+use Rattle.slicc_plan.specs.Declarations.{in_port, out_port}
+use Rattle.slicc_plan.specs.MessageTypes.{message_type, own_type}
 use Rattle.slicc_plan.proofs.Room.{left_none, right_none}
-use Rattle.protocol_runs.specs.IsSetting.{TakesRequests}
+use Rattle.protocol_runs.specs.Prelude.{TakesRequests}
 use Rattle.protocol_meaning.proofs.Buffers.{IsPair}
 
 -- Tests.

@@ -5,28 +5,14 @@ use Rattle.std.specs.List.{All}
 use Rattle.std.proofs.lemmas.List.Elements.{All-weaker}
 use Rattle.std.proofs.lemmas.List.FromFn.{length-map-range_with_len}
 use Rattle.slicc_ast.specs.declared.tree.item.Tree.{Tree}
-use Rattle.slicc_plan.specs.AllRules.{IsAccepted}
-use Rattle.slicc_plan.specs.BodySizes.{large_bodies}
-use Rattle.slicc_plan.specs.CallsBetween.{call_circles}
-use Rattle.slicc_plan.specs.Declarations.{machines_of}
-use Rattle.slicc_plan.specs.MachineParts.{missing_machine, missing_parts}
-use Rattle.slicc_plan.specs.Networks.{wrong_networks}
-use Rattle.slicc_plan.specs.ReadOnly.{reading_changes}
-use Rattle.slicc_plan.specs.StateFunctions.{wrong_state_functions}
-use Rattle.slicc_plan.specs.SymbolsOf.{symbols_of}
-use Rattle.slicc_plan.specs.TwoTransitions.{shared_pairs}
+use Rattle.slicc_plan.specs.Prelude.{IsAccepted, large_bodies, call_circles, machines_of, missing_machine, missing_parts, wrong_networks, reading_changes, wrong_state_functions, symbols_of, shared_pairs}
 use Rattle.slicc_plan.proofs.Room.{left_none, right_none}
-use Rattle.ruby_topology.specs.declared.statement.Statement.{Statement}
+use Rattle.ruby_topology.specs.declared.forms.Statement.{Statement}
 use Rattle.ruby_topology.specs.declared.topology.Seat.{Seat}
 use Rattle.ruby_topology.specs.declared.topology.Topology.{Topology}
-use Rattle.ruby_topology.specs.Members.{count_or_none}
-use Rattle.ruby_topology.specs.Text.{lines_of}
-use Rattle.ruby_topology.specs.Topology.{HasParts, IsTopologyOf, IsTopologySaid, members_from, seats_of}
-use Rattle.ruby_topology.specs.Within.{IsWithin}
+use Rattle.ruby_topology.specs.Prelude.{count_or_none, lines_of, HasParts, IsTopologyOf, IsTopologySaid, members_from, seats_of, IsWithin}
 use Rattle.ruby_topology.proofs.Ends.{few_counts}
-use Rattle.protocol_meaning.specs.FitsPlan.{ComesBefore, FitsPlan, IsSeat}
-use Rattle.protocol_meaning.specs.Seats.{seat_setup}
-use Rattle.protocol_meaning.specs.Setups.{ranges_of}
+use Rattle.protocol_meaning.specs.Prelude.{ComesBefore, FitsPlan, IsSeat, seat_setup, ranges_of}
 use Rattle.protocol_meaning.proofs.Counts.{some_of_each}
 use Rattle.protocol_meaning.proofs.Fit.{AreLawful, fits_with, sized, sizes_counted}
 use Rattle.protocol_meaning.proofs.Lines.{AreKnown, IsSound, all_known}

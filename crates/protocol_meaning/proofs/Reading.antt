@@ -13,8 +13,8 @@ use Rattle.body_meaning.specs.declared.frame.Flow.TheVariants.{WentOn, Returned,
 use Rattle.body_meaning.specs.declared.frame.Frame.{Frame}
 use Rattle.body_meaning.specs.declared.thing.Thing.{Thing}
 use Rattle.body_meaning.specs.declared.thing.Thing.TheVariants as thing
-use Rattle.body_meaning.specs.Reading.{Reading}
-use Rattle.protocol_meaning.specs.Extent.{Extent, AreWithin, IsMember, IsWithin}
+use Rattle.body_meaning.specs.Prelude.{Reading}
+use Rattle.protocol_meaning.specs.Prelude.{Extent, AreWithin, IsMember, IsWithin}
 use Rattle.protocol_meaning.proofs.Bounds.{Bounds}
 use Rattle.protocol_meaning.proofs.Setting.{SettingWithin}
 

@@ -10,23 +10,17 @@ use Rattle.std.proofs.lemmas.List.Quantifiers.{position-Some}
 use Rattle.std.proofs.lemmas.Option.{slice_get_within}
 use Rattle.std.proofs.lemmas.Slice.Eq.{bytes_eq-Decides}
 use Rattle.ruby_symbols.specs.declared.types.StructureSymbol.{StructureSymbol}
-use Rattle.ruby_symbols.specs.Types.{is_owner, request}
+use Rattle.ruby_symbols.specs.Prelude.{is_owner, request}
 use Rattle.slicc_ast.specs.declared.tree.declaration.Structure.{Structure}
 use Rattle.slicc_ast.specs.declared.tree.item.Tree.{Tree}
 use Rattle.slicc_ast.specs.declared.tree.machine.Machine.{Machine}
 use Rattle.slicc_ast.specs.declared.tree.name.Name.{Name}
 use Rattle.slicc_plan.specs.declared.built_in.BuiltInType.{BuiltInType}
 use Rattle.slicc_plan.specs.declared.built_in.BuiltInType.TheVariants.{Request}
-use Rattle.slicc_plan.specs.AllRules.{IsAccepted}
+use Rattle.slicc_plan.specs.Prelude.{IsAccepted, Declaration, machine, everywhere, within, global_declarations, is_external, machine_declarations, machine_in, machines_of, name_of, is_counted_structure, scopes_within, symbols_of, field_symbols, owner, request_symbol, structure_symbol, structure_symbols, declaration_told, globally_repeated_after, repeated, takes_built_in_name, told_globally, ScopedDeclaration, declared_structures, declares, made_in, made_with_its_own, request_number, scoped_declarations, structure_number, KnownType, built_in, enumerated, structured}
 use Rattle.slicc_plan.specs.BuiltIn.{built_in_type}
-use Rattle.slicc_plan.specs.Declarations.{Declaration, machine, structure, everywhere, within, global_declarations, is_external, machine_declarations, machine_in, machines_of, name_of}
-use Rattle.slicc_plan.specs.Limits.{is_counted_structure}
-use Rattle.slicc_plan.specs.Scopes.{scopes_within}
-use Rattle.slicc_plan.specs.SymbolsOf.{symbols_of}
-use Rattle.slicc_plan.specs.SymbolsOfTypes.{field_symbols, owner, request_symbol, structure_symbol, structure_symbols}
-use Rattle.slicc_plan.specs.TwiceDeclared.{declaration_told, globally_repeated_after, listed, repeated, takes_built_in_name, told_globally}
-use Rattle.slicc_plan.specs.TypeNumbers.{ScopedDeclaration, declared_structures, declares, made_in, made_with_its_own, request_number, scoped_declarations, structure_number}
-use Rattle.slicc_plan.specs.Types.{KnownType, built_in, enumerated, structured}
+use Rattle.slicc_plan.specs.Declarations.{structure}
+use Rattle.slicc_plan.specs.TwiceDeclared.{listed}
 use Rattle.slicc_plan.proofs.Room.{left_none, right_none}
 use Rattle.slicc_plan.proofs.Names.{none_twice}
 use Rattle.protocol_meaning.proofs.Places.{any_position, at_position, position_is, position_numbered}

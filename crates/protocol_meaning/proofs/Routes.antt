@@ -10,26 +10,19 @@ use Rattle.ruby_value.specs.declared.setup.BufferPlace.{BufferPlace}
 use Rattle.ruby_value.specs.declared.setup.BufferPlace.TheVariants as place
 use Rattle.ruby_value.specs.declared.setup.BufferSetup.{BufferSetup}
 use Rattle.ruby_value.specs.declared.setup.Sizes.{Sizes}
-use Rattle.ruby_value.specs.NetworkOf.{network_of}
+use Rattle.ruby_value.specs.Prelude.{network_of}
 use Rattle.ruby_symbols.specs.declared.machine.BufferSymbol.{BufferSymbol}
 use Rattle.ruby_symbols.specs.declared.machine.MachineSymbols.{MachineSymbols}
 use Rattle.ruby_symbols.specs.declared.symbols.Symbols.{Symbols}
-use Rattle.ruby_symbols.specs.Numbers.{number_of}
+use Rattle.ruby_symbols.specs.Prelude.{number_of}
 use Rattle.slicc_ast.specs.declared.tree.item.Tree.{Tree}
 use Rattle.slicc_ast.specs.declared.tree.machine.Machine.{Machine}
-use Rattle.slicc_plan.specs.Declarations.{machines_of}
-use Rattle.slicc_plan.specs.Setups.{setup_in}
-use Rattle.slicc_plan.specs.SymbolsOf.{symbols_of}
-use Rattle.slicc_plan.specs.SymbolsOfMachines.{machine_symbols}
-use Rattle.slicc_plan.specs.Lawful.{HasNetworks, HasNumbers, ReceivesOnce}
+use Rattle.slicc_plan.specs.Prelude.{machines_of, setup_in, symbols_of, machine_symbols, HasNetworks, HasNumbers, ReceivesOnce}
 use Rattle.ctl_face.specs.declared.routes.Routes.{Routes}
-use Rattle.ctl_face.specs.OfMachine.{buffer_place}
-use Rattle.ctl_face.specs.RoutesFit.{IsFrom, IsNamed, IsOfMachine, KeepsOrder, NamesBuffers, ReceivesFrom}
-use Rattle.ctl_face.specs.Routing.{is_ordered, receiving_buffer}
-use Rattle.ruby_topology.specs.declared.statement.Member.{Member}
-use Rattle.ruby_topology.specs.declared.statement.Statement.{Statement}
-use Rattle.ruby_topology.specs.Said.{is_ordered_said}
-use Rattle.ruby_topology.specs.Topology.{calls_ordered, has_ordered, is_from, is_on, is_ordered_on, members_from, ranges_from, receiving_at, receiving_of}
+use Rattle.ctl_face.specs.Prelude.{buffer_place, IsFrom, IsNamed, IsOfMachine, KeepsOrder, NamesBuffers, ReceivesFrom, is_ordered, receiving_buffer}
+use Rattle.ruby_topology.specs.declared.forms.Member.{Member}
+use Rattle.ruby_topology.specs.declared.forms.Statement.{Statement}
+use Rattle.ruby_topology.specs.Prelude.{is_ordered_said, calls_ordered, has_ordered, is_from, is_on, is_ordered_on, members_from, ranges_from, receiving_at, receiving_of}
 use Rattle.protocol_meaning.proofs.Buffers.{buffers_paired, from_is, is_from_it, on_it, setup_of_symbol, symbol_of}
 use Rattle.protocol_meaning.proofs.ByNumber.{symbols_found}
 use Rattle.protocol_meaning.proofs.Numbers.{member_in_range}

@@ -17,7 +17,7 @@ use Rattle.ruby_value.specs.declared.setup.TableSize.{TableSize}
 use Rattle.ruby_value.specs.declared.setup.TableSize.TheVariants as size
 use Rattle.ruby_value.specs.declared.value.Value.{Value}
 use Rattle.ruby_value.specs.declared.value.Value.TheVariants as value
-use Rattle.ruby_value.specs.Cache.{Line}
+use Rattle.ruby_value.specs.Prelude.{Line}
 use Rattle.ruby_symbols.specs.declared.machine.MachineSymbols.{MachineSymbols}
 use Rattle.run_journal.specs.declared.entry.End.{End}
 use Rattle.run_journal.specs.declared.entry.End.TheVariants as end
@@ -27,55 +27,30 @@ use Rattle.run_journal.specs.declared.entry.FireNote.{FireNote}
 use Rattle.run_journal.specs.declared.entry.StopAt.{StopAt}
 use Rattle.run_journal.specs.declared.event.Event.{Event}
 use Rattle.run_journal.specs.declared.verdict.Verdict.TheVariants as verdict
-use Rattle.protocol_runs.specs.Change.{Change, Closes, Ends, EndedBy, Filled, FiredBy, Halted, Idled, Move, Moves, Released, Taken, Turns}
+use Rattle.protocol_runs.specs.Prelude.{Change, Closes, Ends, EndedBy, Filled, FiredBy, Halted, Idled, Move, Moves, Released, Taken, Turns, Acts, Fired, Full, Idle, Outcome, Rules, Scan, Stop, IsRun, Ran, Moved, Stepped, after_driver, driver_turn_in, fired_entry, with_driver_turn, Place, World, IsSetting, FitsRun, HasSeats, SuitsReceiver, actor_of, machine_of, IsMeaning, member_of, request_at, request_fields, request_message, request_messages, rules, SeatSetup, Setting, acts_at, seats_in}
 use Rattle.protocol_runs.specs.Premises as runs
-use Rattle.protocol_runs.specs.RunRules.{Acts, Fired, Full, Idle, Outcome, Rules, Scan, Stop}
-use Rattle.protocol_runs.specs.Run.{IsRun, Ran}
-use Rattle.protocol_runs.specs.Step.{Moved, Stepped, after_driver, driver_turn_in, fired_entry, with_driver_turn}
-use Rattle.protocol_runs.specs.World.{Place, World}
 use Rattle.protocol_runs.proofs.Fitting as fitting_runs
 use Rattle.protocol_runs.proofs.Runs.{hold-along}
 use Rattle.slicc_ast.specs.declared.tree.item.Tree.{Tree}
-use Rattle.slicc_plan.specs.SymbolsOf.{symbols_of}
-use Rattle.ctl_face.specs.Between.{DriverAct, Issues, Takes, after_driver_acts, at_cycle, with_arrival, with_one_fired, with_request, with_stop, with_wake_up, without_first_answer}
-use Rattle.ctl_face.specs.Ctl.{Ctl}
-use Rattle.ctl_face.specs.LocalView.{LocalView}
-use Rattle.ctl_face.specs.Mailing.{incoming_message}
-use Rattle.ctl_face.specs.OfMachine.{initial_fields}
-use Rattle.ctl_face.specs.Opening.{opening_ctl, opening_table}
-use Rattle.ctl_face.specs.ScanView.{scan_view}
-use Rattle.ctl_face.specs.Table.{ParameterTable, Table}
+use Rattle.slicc_plan.specs.Prelude.{symbols_of}
+use Rattle.ctl_face.specs.Prelude.{DriverAct, Issues, Takes, after_driver_acts, at_cycle, with_arrival, with_one_fired, with_request, with_stop, with_wake_up, without_first_answer, Ctl, LocalView, incoming_message, initial_fields, opening_ctl, opening_table, scan_view, ParameterTable, Table}
 use Rattle.ctl_face.proofs.Inboxes.{all-with}
 use Rattle.ctl_face.proofs.Lines.{All-found}
-use Rattle.body_meaning.specs.Reading.{Reading}
-use Rattle.body_meaning.specs.declared.round.RoundEnd.{RoundEnd}
-use Rattle.body_meaning.specs.declared.round.RoundEnd.TheVariants as round
-use Rattle.body_meaning.specs.Scan.{Scanned, scan}
+use Rattle.body_meaning.specs.Prelude.{Reading, Scanned, scan}
+use Rattle.body_meaning.specs.declared.frame.RoundEnd.{RoundEnd}
+use Rattle.body_meaning.specs.declared.frame.RoundEnd.TheVariants as round
 use Rattle.sequencer.specs.declared.issued.Issued.{Issued}
-use Rattle.sequencer.specs.Drive.{Drive}
-use Rattle.sequencer.specs.Seats.{Seat}
-use Rattle.protocol_runs.specs.IsSetting.{IsSetting}
-use Rattle.protocol_runs.specs.Kept.{FitsRun, HasSeats, SuitsReceiver}
-use Rattle.protocol_runs.specs.Machines.{actor_of, machine_of}
-use Rattle.protocol_runs.specs.Meaning.{IsMeaning}
-use Rattle.protocol_runs.specs.Requests.{member_of, request_at, request_fields, request_message, request_messages}
-use Rattle.protocol_runs.specs.Rules.{rules}
-use Rattle.protocol_runs.specs.Setting.{SeatSetup, Setting}
-use Rattle.protocol_runs.specs.Turn.{acts_at, seats_in}
+use Rattle.sequencer.specs.Prelude.{Drive, Seat}
 use Rattle.protocol_runs.proofs.Controllers.{IsOne, Opened, count-is, opened}
 use Rattle.protocol_runs.proofs.Driver.{IsDriver}
 use Rattle.protocol_runs.proofs.Premises as premises
 use Rattle.protocol_runs.proofs.Ranges.{below-free, machine-is, machine-says}
 use Rattle.protocol_runs.proofs.Scans.{fitting, scan-is}
-use Rattle.protocol_meaning.specs.Meaning.{meaning_of, outcome_by, outcome_of, scan_by, scan_of}
-use Rattle.protocol_meaning.specs.Readings.{reading_with}
+use Rattle.protocol_meaning.specs.Prelude.{meaning_of, outcome_by, outcome_of, scan_by, scan_of, reading_with, AreWithin, Extent, IsMember, IsWithin, members_of, HoldsWithin, MessageWithin, TableWithin, AtMachine, ControllerWithin, EntryWithin, IsEnd, IsNote, IsStop, declared_extent}
 use Rattle.protocol_meaning.proofs.Scans.{is_meaning}
-use Rattle.protocol_meaning.specs.Extent.{AreWithin, Extent, IsMember, IsWithin, members_of}
-use Rattle.protocol_meaning.specs.Held.{HoldsWithin, MessageWithin, TableWithin}
 use Rattle.protocol_meaning.proofs.Bounds.{Bounds, CopyWithin, ViewWithin}
 use Rattle.protocol_meaning.proofs.Reading.{bounds_of}
 use Rattle.protocol_meaning.proofs.Scan.{EndWithin, NoteWithin, ScanWithin, StopWithin}
-use Rattle.protocol_meaning.specs.Runs.{AtMachine, ControllerWithin, EntryWithin, IsEnd, IsNote, IsStop, declared_extent}
 use Rattle.protocol_meaning.proofs.OfMachine.{MachineWithin}
 use Rattle.protocol_meaning.proofs.MemberScans.{scan_within}
 

@@ -4,10 +4,10 @@ use Rattle.std.specs.Prelude.{IfSome}
 use Rattle.ruby_symbols.specs.declared.machine.MachineSymbols.{MachineSymbols}
 use Rattle.run_journal.specs.declared.entry.FireNote.{FireNote}
 use Rattle.run_journal.specs.declared.entry.StopAt.{StopAt}
-use Rattle.body_meaning.specs.declared.round.RoundEnd.{RoundEnd}
-use Rattle.body_meaning.specs.declared.round.RoundEnd.TheVariants.{Fired, Idle, Full, Stop}
-use Rattle.body_meaning.specs.Scan.{Scanned}
-use Rattle.protocol_meaning.specs.Extent.{Extent, IsMember}
+use Rattle.body_meaning.specs.declared.frame.RoundEnd.{RoundEnd}
+use Rattle.body_meaning.specs.declared.frame.RoundEnd.TheVariants.{Fired, Idle, Full, Stop}
+use Rattle.body_meaning.specs.Prelude.{Scanned}
+use Rattle.protocol_meaning.specs.Prelude.{Extent, IsMember}
 use Rattle.protocol_meaning.proofs.Bounds.{Bounds, ViewWithin}
 
 module _ (e : Extent) (m : MachineSymbols) where

@@ -11,30 +11,20 @@ use Rattle.ruby_symbols.specs.declared.machine.TransitionSymbol.{TransitionSymbo
 use Rattle.ruby_symbols.specs.declared.symbols.Symbols.{Symbols}
 use Rattle.run_journal.specs.declared.entry.FireNote.{FireNote}
 use Rattle.run_journal.specs.declared.entry.StopAt.{StopAt}
-use Rattle.protocol_runs.specs.InvalidExactly.{invalid_at}
-use Rattle.protocol_runs.specs.RunRules.{Acts, Fired, Full, Idle, Outcome, Scan, Stop, Tried as RunTried}
+use Rattle.protocol_runs.specs.Prelude.{invalid_at, Acts, Fired, Full, Idle, Outcome, Scan, Stop, Tried as RunTried, IsFired, IsMeaning, IsRefusedTry, IsScanOf, Rests}
 use Rattle.slicc_ast.specs.declared.tree.item.Tree.{Tree}
 use Rattle.slicc_ast.specs.declared.tree.machine.Machine.{Machine}
-use Rattle.slicc_plan.specs.Declarations.{machines_of}
-use Rattle.slicc_plan.specs.SymbolsOf.{symbols_of}
-use Rattle.ctl_face.specs.Ctl.{Ctl}
-use Rattle.ctl_face.specs.LocalView.{LocalView}
-use Rattle.ctl_face.specs.ScanView.{scan_view}
-use Rattle.acts.specs.Done.{Done}
-use Rattle.acts.specs.Left.{IsLeft}
+use Rattle.slicc_plan.specs.Prelude.{machines_of, symbols_of}
+use Rattle.ctl_face.specs.Prelude.{Ctl, LocalView, scan_view}
+use Rattle.acts.specs.Prelude.{Done, IsLeft}
 use Rattle.body_meaning.specs.declared.frame.Flow.{Flow}
 use Rattle.body_meaning.specs.declared.frame.Flow.TheVariants.{WentOn, Returned, Triggered}
-use Rattle.body_meaning.specs.Reading.{Reading}
+use Rattle.body_meaning.specs.Prelude.{Reading, after_port, by_outcome, by_try, left_idle, port_done, port_tried, ports_tried, unless_fired, about, found_tried, is_for, known, read_state, row_tried, try, Pair, Trying, nothing_known, pairs_of, run_scan, with_known}
 use Rattle.body_meaning.specs.declared.thing.Trigger.{Trigger}
-use Rattle.protocol_runs.specs.Meaning.{IsFired, IsMeaning, IsRefusedTry, IsScanOf, Rests}
-use Rattle.body_meaning.specs.declared.round.RoundEnd.TheVariants as round
-use Rattle.body_meaning.specs.declared.tried.Tried.{Tried}
-use Rattle.body_meaning.specs.declared.tried.Tried.TheVariants.{Fires, Waits}
-use Rattle.body_meaning.specs.Scan.{after_port, by_outcome, by_try, left_idle, port_done, port_tried, ports_tried, unless_fired}
-use Rattle.body_meaning.specs.Transition.{about, found_tried, is_for, known, read_state, row_tried, try}
-use Rattle.body_meaning.specs.Trying.{Pair, Trying, nothing_known, pairs_of, run_scan, with_known}
-use Rattle.protocol_meaning.specs.Meaning.{has_row_in, lookups_by, lookups_of, meaning_of, outcome_of, scan_by, scan_of, tried_pair}
-use Rattle.protocol_meaning.specs.Readings.{reading_with}
+use Rattle.body_meaning.specs.declared.frame.RoundEnd.TheVariants as round
+use Rattle.body_meaning.specs.declared.frame.Tried.{Tried}
+use Rattle.body_meaning.specs.declared.frame.Tried.TheVariants.{Fires, Waits}
+use Rattle.protocol_meaning.specs.Prelude.{has_row_in, lookups_by, lookups_of, meaning_of, outcome_of, scan_by, scan_of, tried_pair, reading_with}
 use Rattle.protocol_meaning.proofs.Tries.{Cause, IsExact, body_is_exact, caused, comes, scan_leaves, then_is_exact}
 
 -- A transition is found exactly where one is written.

@@ -12,23 +12,16 @@ use Rattle.ruby_value.specs.declared.setup.MachineSetup.{MachineSetup}
 use Rattle.ruby_value.specs.declared.setup.Sizes.{Sizes}
 use Rattle.ruby_symbols.specs.declared.machine.MachineSymbols.{MachineSymbols}
 use Rattle.ruby_symbols.specs.declared.symbols.Symbols.{Symbols}
-use Rattle.ruby_symbols.specs.Names.{is_mandatory, mandatory}
+use Rattle.ruby_symbols.specs.Prelude.{is_mandatory, mandatory}
 use Rattle.slicc_ast.specs.declared.tree.item.Tree.{Tree}
 use Rattle.slicc_ast.specs.declared.tree.machine.Machine.{Machine}
-use Rattle.slicc_plan.specs.Declarations.{machines_of}
-use Rattle.slicc_plan.specs.Networks.{has_sequencer, wrong_networks}
-use Rattle.slicc_plan.specs.Setups.{setup_in}
-use Rattle.slicc_plan.specs.SymbolsOf.{symbols_of}
-use Rattle.slicc_plan.specs.SymbolsOfMachines.{machine_symbols}
-use Rattle.protocol_runs.specs.IsSetting.{HasQueue, TakesRequests}
-use Rattle.protocol_runs.specs.Machines.{is_in_range, machine_of}
-use Rattle.ruby_topology.specs.declared.statement.Member.{Member}
+use Rattle.slicc_plan.specs.Prelude.{machines_of, has_sequencer, wrong_networks, setup_in, symbols_of, machine_symbols}
+use Rattle.protocol_runs.specs.Prelude.{HasQueue, TakesRequests, is_in_range, machine_of}
+use Rattle.ruby_topology.specs.declared.forms.Member.{Member}
 use Rattle.ruby_topology.specs.declared.topology.Seat.{Seat}
 use Rattle.ruby_topology.specs.declared.topology.Topology.{Topology}
-use Rattle.ruby_topology.specs.Topology.{can_be_asked, is_seat, members_from, seat_of, seats_of}
-use Rattle.protocol_meaning.specs.FitsPlan.{AtSetup, ComesBefore, IsSeat}
-use Rattle.protocol_meaning.specs.Seats.{queue_of, seat_setup}
-use Rattle.protocol_meaning.specs.Setups.{ranges_of, setups_of}
+use Rattle.ruby_topology.specs.Prelude.{can_be_asked, is_seat, members_from, seat_of, seats_of}
+use Rattle.protocol_meaning.specs.Prelude.{AtSetup, ComesBefore, IsSeat, queue_of, seat_setup, ranges_of, setups_of}
 use Rattle.protocol_meaning.proofs.Buffers.{buffers_paired, setup_of_symbol}
 use Rattle.protocol_meaning.proofs.ByNumber.{machine_found, setup_there}
 use Rattle.protocol_meaning.proofs.Numbers.{located}

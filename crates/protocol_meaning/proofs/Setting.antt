@@ -3,8 +3,8 @@
 -- numbers are those of controllers; and there is one controller at least.
 use Rattle.std.specs.Prelude.{◌≡◌, ◌<◌, ◌≤◌, ◌+◌, ◌*◌, ℕ, Some, length, pos, slice_get}
 use Rattle.ruby_value.specs.declared.value.Value.TheVariants.{Int}
-use Rattle.built_in_acts.specs.declared.setting.CallSetting.{CallSetting}
-use Rattle.protocol_meaning.specs.Extent.{members_of}
+use Rattle.built_in_acts.specs.declared.call.CallSetting.{CallSetting}
+use Rattle.protocol_meaning.specs.Prelude.{members_of}
 use Rattle.protocol_meaning.proofs.Bounds.{Bounds}
 
 module _ (b : Bounds) (setting : CallSetting) where

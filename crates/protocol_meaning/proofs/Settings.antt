@@ -4,16 +4,11 @@ use Rattle.std.proofs.lemmas.List.{length-map}
 use Rattle.std.proofs.lemmas.List.Elements.{All-weaker}
 use Rattle.ruby_value.specs.declared.setup.MachineSetup.{MachineSetup}
 use Rattle.slicc_ast.specs.declared.tree.item.Tree.{Tree}
-use Rattle.slicc_plan.specs.SymbolsOf.{symbols_of}
+use Rattle.slicc_plan.specs.Prelude.{symbols_of}
 use Rattle.ruby_topology.specs.declared.topology.Topology.{Topology}
-use Rattle.ctl_face.specs.Fits.{last_cycle}
-use Rattle.protocol_meaning.specs.FitsPlan.{FitsPlan, IsSeat}
-use Rattle.protocol_meaning.specs.Seats.{seat_setup, seat_setups}
-use Rattle.protocol_meaning.specs.Setups.{ranges_of}
-use Rattle.protocol_runs.specs.IsSetting.{HasQueue, IsSetting}
-use Rattle.protocol_runs.specs.Machines.{setup_of}
-use Rattle.protocol_runs.specs.Setting.{SeatSetup, Setting}
-use Rattle.protocol_meaning.specs.Setting.{setting_of}
+use Rattle.ctl_face.specs.Prelude.{last_cycle}
+use Rattle.protocol_meaning.specs.Prelude.{FitsPlan, IsSeat, seat_setup, seat_setups, ranges_of, setting_of}
+use Rattle.protocol_runs.specs.Prelude.{HasQueue, IsSetting, setup_of, SeatSetup, Setting}
 
 some_weaker : {X : Type 0} (P Q : X → Type 0) → ((x : X) → P x → Q x) → (o : Option X) → IsSomeAnd o P → IsSomeAnd o Q
 some_weaker P Q weaker None is = is

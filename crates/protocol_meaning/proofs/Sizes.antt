@@ -13,14 +13,14 @@ use Rattle.ruby_symbols.specs.declared.machine.TableSort.TheVariants as sort
 use Rattle.ruby_symbols.specs.declared.machine.TableSymbol.{TableSymbol}
 use Rattle.ruby_symbols.specs.declared.symbols.Symbols.{Symbols}
 use Rattle.ruby_symbols.specs.declared.types.FieldSymbol.{FieldSymbol}
-use Rattle.ruby_topology.specs.declared.statement.Statement.{Statement}
-use Rattle.ruby_topology.specs.declared.statement.Statement.TheVariants.{Machine, Network, Link, Jitter, Ordered, Cache, Tbes, Set}
-use Rattle.ruby_topology.specs.Lines.{sort_at}
-use Rattle.ruby_topology.specs.Topology.{cache_of, sizes_of, tbes_of, value_of}
+use Rattle.ruby_topology.specs.declared.forms.Statement.{Statement}
+use Rattle.ruby_topology.specs.declared.forms.Statement.TheVariants.{Machine, Network, Link, Jitter, Ordered, Cache, Tbes, Set}
+use Rattle.ruby_topology.specs.Prelude.{sort_at, cache_of, sizes_of, tbes_of}
+use Rattle.ruby_topology.specs.Topology.{value_of}
 use Rattle.slicc_ast.specs.declared.tree.item.Tree.{Tree}
-use Rattle.slicc_plan.specs.Declarations.{machines_of}
-use Rattle.slicc_plan.specs.Setups.{AreSizesOf, HasRoom, cache_size, tbe_size}
-use Rattle.protocol_meaning.specs.FitsPlan.{AreSizesIn, IsCacheSize, IsNumberOf, IsTbe, IsTbesSize}
+use Rattle.slicc_plan.specs.Prelude.{machines_of, AreSizesOf, cache_size, tbe_size}
+use Rattle.slicc_plan.specs.Setups.{HasRoom}
+use Rattle.protocol_meaning.specs.Prelude.{AreSizesIn, IsCacheSize, IsNumberOf, IsTbe, IsTbesSize}
 use Rattle.protocol_meaning.proofs.Lines.{AreKnown, IsNewAfter, IsSound}
 use Rattle.protocol_meaning.proofs.Places.{pairs_picked, picked, some_and}
 

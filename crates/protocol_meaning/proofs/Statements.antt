@@ -9,39 +9,29 @@ use Rattle.slicc_ast.specs.declared.tree.expression.Expr.{Expr, Number, True, Fa
 use Rattle.slicc_ast.specs.declared.tree.statement.Block.{Block}
 use Rattle.slicc_ast.specs.declared.tree.statement.If.{If, If', Held-If-otherwise, None', Some', Row_of-ElseIf, end_of-ElseIf, more_of-ElseIf}
 use Rattle.slicc_ast.specs.declared.tree.statement.Stmt.{Stmt, Declare, Assign, Evaluate, Return, If as IfStmt, Peek', Enqueue', StallAndWait, CheckAllocate, Error, Assert, Print, Row_of-Stmt, end_of-Stmt, more_of-Stmt}
-use Rattle.slicc_ast.specs.Boxes.{Operation', Not', Negate', Postfix', IsValid', IsInvalid', Cast', Group'}
+use Rattle.slicc_ast.specs.Prelude.{Operation', Not', Negate', Postfix', IsValid', IsInvalid', Cast', Group'}
 use Rattle.ruby_value.specs.declared.value.Value.{Value}
 use Rattle.ruby_symbols.specs.declared.machine.FormalSymbol.{FormalSymbol}
 use Rattle.ruby_symbols.specs.declared.machine.FunctionSymbol.{FunctionSymbol}
 use Rattle.ruby_symbols.specs.declared.types.FieldSymbol.{FieldSymbol}
 use Rattle.ruby_symbols.specs.declared.types.StructureSymbol.{StructureSymbol}
-use Rattle.ruby_symbols.specs.Names.{function_named}
+use Rattle.ruby_symbols.specs.Prelude.{function_named}
 use Rattle.ctl_face.proofs.Lines.{All-found}
 use Rattle.acts.specs.declared.body_fault.BodyFault.TheVariants as own
 use Rattle.acts.specs.Act as act
-use Rattle.acts.specs.Acting.{Acting, ◌>>=◌, found}
-use Rattle.built_in_acts.specs.BuiltIn.{built_in}
-use Rattle.built_in_acts.specs.Values.{reference, truth}
+use Rattle.acts.specs.Prelude.{Acting, ◌>>=◌, found}
+use Rattle.built_in_acts.specs.Prelude.{built_in, reference, truth}
 use Rattle.body_meaning.specs.declared.frame.About.{About}
 use Rattle.body_meaning.specs.declared.frame.Bound.{Bound}
 use Rattle.body_meaning.specs.declared.frame.Flow.{Flow}
 use Rattle.body_meaning.specs.declared.frame.Flow.TheVariants.{WentOn, Returned, Triggered}
 use Rattle.body_meaning.specs.declared.frame.Frame.{Frame}
-use Rattle.body_meaning.specs.declared.place.Place.{Place}
-use Rattle.body_meaning.specs.declared.place.Place.TheVariants.{Named, Part, Line}
+use Rattle.body_meaning.specs.declared.frame.Place.{Place}
+use Rattle.body_meaning.specs.declared.frame.Place.TheVariants.{Named, Part, Line}
 use Rattle.body_meaning.specs.declared.thing.Thing.{Thing}
 use Rattle.body_meaning.specs.declared.thing.Thing.TheVariants as thing
-use Rattle.body_meaning.specs.Bodies.{answer_of, body_of, bound_formals, calls_of, calls_within, frame_of, function_called, function_run, with_formal}
-use Rattle.body_meaning.specs.CallNumbers.{changes_receiver, stall_call, write_callback}
-use Rattle.body_meaning.specs.Calls.{Calls, value_call}
-use Rattle.body_meaning.specs.Expressions.{value, value_behind, values_of}
-use Rattle.body_meaning.specs.Frames.{Ended, bind, bound_at, is_named, leave, outermost, rebind, thing_bound}
-use Rattle.body_meaning.specs.Names.{initial_fields, line_field, message_of, new_message, port_named, structure_field}
-use Rattle.body_meaning.specs.Places.{at_place, before_last, field_place, last_of, line_place, name_behind, part_of, part_place, place_behind, place_last, place_of, place_with, with_part, with_place}
-use Rattle.body_meaning.specs.Reading.{Reading}
-use Rattle.body_meaning.specs.Statements.{about_after, after, all_done, assigned, behind_alone, block_in, called_alone, called_or, changed, chosen, ends_by, enqueued, evaluated, exec, fields_made, flow_of, goes_on, if_done, last_alone, latency, otherwise_done, others_done, peeked, returned, row_done, scoped, sent, stalled, went_on, written_back}
-use Rattle.body_meaning.specs.Things.{value_in}
-use Rattle.protocol_meaning.specs.Extent.{AreWithin, Extent, IsWithin}
+use Rattle.body_meaning.specs.Prelude.{answer_of, body_of, bound_formals, calls_of, calls_within, frame_of, function_called, function_run, with_formal, changes_receiver, stall_call, write_callback, Calls, value_call, value, value_behind, values_of, Ended, bind, bound_at, is_named, leave, outermost, rebind, thing_bound, initial_fields, line_field, message_of, new_message, port_named, structure_field, at_place, before_last, field_place, last_of, line_place, name_behind, part_of, part_place, place_behind, place_last, place_of, place_with, with_part, with_place, Reading, about_after, after, all_done, assigned, behind_alone, block_in, called_alone, called_or, changed, chosen, ends_by, enqueued, evaluated, exec, fields_made, flow_of, goes_on, if_done, last_alone, latency, otherwise_done, others_done, peeked, returned, row_done, scoped, sent, stalled, went_on, written_back, value_in}
+use Rattle.protocol_meaning.specs.Prelude.{AreWithin, Extent, IsWithin}
 use Rattle.protocol_meaning.proofs.Bounds.{Bounds}
 use Rattle.protocol_meaning.proofs.Reading.{FlowWithin, FrameWithin, ReadingWithin, bounds_of, extent_of}
 use Rattle.protocol_meaning.proofs.BuiltIn.{built_in_stays}

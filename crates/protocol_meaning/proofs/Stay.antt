@@ -1,8 +1,7 @@
 -- Bodies that stay within bounds, made of others that do.
 use Rattle.std.proofs.Common.{◌≡◌, Bool, true, false, cond, refl, Option, None, Some, IfSome, IfOk, Result, Ok, Err}
 use Rattle.acts.specs.declared.body_fault.BodyFault.{BodyFault}
-use Rattle.acts.specs.Act.{Act, answer}
-use Rattle.acts.specs.Acting.{Acting, ends, stops, acts, ◌>>=◌, ◌>>◌, act, decided, either, found, given}
+use Rattle.acts.specs.Prelude.{Act, answer, Acting, ends, stops, acts, ◌>>=◌, ◌>>◌, act, decided, either, found, given}
 use Rattle.protocol_meaning.proofs.Bodies.{AnswersWithin, AsksWithin, Stays}
 use Rattle.protocol_meaning.proofs.Bounds.{Bounds}
 

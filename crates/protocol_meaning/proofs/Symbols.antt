@@ -7,7 +7,7 @@ use Rattle.std.proofs.lemmas.List.Elements.{All-append, All-cons, All-filter, Al
 use Rattle.std.proofs.lemmas.List.Quantifiers.{position-Some}
 use Rattle.ruby_value.specs.declared.kind.Kind.{Kind}
 use Rattle.ruby_value.specs.declared.kind.Kind.TheVariants as kind
-use Rattle.ruby_value.specs.DefaultValue.{default_value}
+use Rattle.ruby_value.specs.Prelude.{default_value}
 use Rattle.ruby_symbols.specs.declared.types.FieldSymbol.{FieldSymbol}
 use Rattle.ruby_symbols.specs.declared.types.StructureSymbol.{StructureSymbol}
 use Rattle.slicc_ast.specs.declared.tree.declaration.Member.{Member}
@@ -17,21 +17,13 @@ use Rattle.slicc_ast.specs.declared.tree.declaration.Structure.{Structure}
 use Rattle.slicc_ast.specs.declared.tree.item.Tree.{Tree}
 use Rattle.slicc_plan.specs.declared.built_in.BuiltInType.{BuiltInType}
 use Rattle.slicc_plan.specs.declared.built_in.BuiltInType.TheVariants as built
-use Rattle.slicc_plan.specs.AllRules.{IsAccepted}
-use Rattle.slicc_plan.specs.Attributes.{Attribute, first_attribute}
-use Rattle.slicc_plan.specs.BuiltIn.{NamedType, built_in_type, request_fields}
+use Rattle.slicc_plan.specs.Prelude.{IsAccepted, Attribute, first_attribute, NamedType, request_fields, Declaration, machine, states, member, Scope, everywhere, within, first_named, global_declarations, is_external, is_named, machine_declarations, machine_names, FieldIn, field_type, field_kind, initial_of, initial_value, member_written, value_by, value_written, is_counted_structure, is_enumeration, symbols_of, field_of_type, field_symbol, field_symbols, owner, request_symbol, structure_declared, structure_symbol, structure_symbols, ScopedDeclaration, built_in_kind, declared_number, declared_structures, default_member, is_default_of, kind_or_bool, made_in, made_with_its_own, member_number, plain_kind, scoped_declarations, KnownType, built_in, enumerated, structured, declared_type, external_type, global_type, structure_type, table_named, type_in, type_of_found, type_where}
+use Rattle.slicc_plan.specs.BuiltIn.{built_in_type}
 use Rattle.slicc_plan.specs.BuiltIn as names
-use Rattle.slicc_plan.specs.Declarations.{Declaration, machine, enumeration, structure, states, member, Scope, everywhere, within, first_named, global_declarations, is_external, is_named, machine_declarations, machine_names}
-use Rattle.slicc_plan.specs.FieldTypes.{FieldIn, field_type}
-use Rattle.slicc_plan.specs.InitialFields.{field_kind, initial_of, initial_value, member_written, value_by, value_written}
-use Rattle.slicc_plan.specs.Limits.{is_counted_structure, is_enumeration}
-use Rattle.slicc_plan.specs.SymbolsOf.{symbols_of}
-use Rattle.slicc_plan.specs.SymbolsOfTypes.{field_of_type, field_symbol, field_symbols, owner, request_field, request_symbol, structure_declared, structure_symbol, structure_symbols}
-use Rattle.slicc_plan.specs.TypeNumbers.{ScopedDeclaration, built_in_kind, declared_number, declared_structures, default_member, is_default_of, kind_or_bool, made_in, made_with_its_own, member_number, plain_kind, scoped_declarations}
-use Rattle.slicc_plan.specs.Types.{KnownType, built_in, enumerated, structured, declared_type, external_type, global_type, structure_type, table_named, type_in, type_of_found, type_where}
+use Rattle.slicc_plan.specs.Declarations.{enumeration, structure}
+use Rattle.slicc_plan.specs.SymbolsOfTypes.{request_field}
 use Rattle.slicc_plan.proofs.There.{There, in_machine, there_first, there_flat, there_found, there_later}
-use Rattle.protocol_meaning.specs.Extent.{Extent, IsMember, IsWithin, members_of}
-use Rattle.protocol_meaning.specs.Runs.{declared_extent}
+use Rattle.protocol_meaning.specs.Prelude.{Extent, IsMember, IsWithin, members_of, declared_extent}
 use Rattle.protocol_meaning.proofs.Declared.{L, counted, default_within, listed, names_in, text_in}
 
 -- a scope of the protocol

@@ -9,29 +9,12 @@ use Rattle.ruby_value.specs.declared.fault.Fault.{Fault}
 use Rattle.ruby_value.specs.declared.fault.Fault.TheVariants.{Absent, Full, Present, Reference}
 use Rattle.ruby_value.specs.declared.value.Ref.{Ref}
 use Rattle.ruby_value.specs.declared.value.Value.{Value}
-use Rattle.ruby_value.specs.Available.{available}
-use Rattle.ruby_value.specs.Cache.{Cache, Line}
-use Rattle.ruby_value.specs.FieldsOf.{fields_of}
-use Rattle.ruby_value.specs.MadeRecent.{made_recent}
-use Rattle.ruby_value.specs.SetOf.{set_of}
-use Rattle.ruby_value.specs.WithFields.{with_fields}
-use Rattle.ruby_value.specs.WithSet.{with_set}
-use Rattle.ruby_value.specs.WithoutLine.{without_line}
-use Rattle.ctl_face.specs.Allocate.{allocate, with_line}
-use Rattle.ctl_face.specs.Deallocate.{deallocate, without_line_in}
-use Rattle.ctl_face.specs.FieldsIn.{fields_in, with_fields_in}
-use Rattle.ctl_face.specs.Get.{fields_behind, get}
-use Rattle.ctl_face.specs.LocalView.{LocalView}
-use Rattle.ctl_face.specs.OfMachine.{initial_fields}
-use Rattle.ctl_face.specs.Set.{table_with_field, set as set_field}
-use Rattle.ctl_face.specs.Table.{Table, CacheTable, DirectoryTable, TbeTable, ParameterTable}
-use Rattle.ctl_face.specs.Tables.{after_change, change_if_there, changed_table, table_at, with_table}
-use Rattle.ctl_face.specs.Touch.{touch, used_line}
+use Rattle.ruby_value.specs.Prelude.{available, Cache, Line, fields_of, made_recent, set_of, with_fields, with_set, without_line}
+use Rattle.ctl_face.specs.Prelude.{allocate, with_line, deallocate, without_line_in, fields_in, with_fields_in, fields_behind, get, LocalView, initial_fields, table_with_field, set as set_field, Table, CacheTable, DirectoryTable, TbeTable, ParameterTable, after_change, change_if_there, changed_table, table_at, with_table, touch, used_line}
 use Rattle.ctl_face.proofs.Cases.{Good, good_ok, good_err, good_cond}
 use Rattle.ctl_face.proofs.Lines.{All-found, All-removed, All-written, All-at, holds_after_set, lookup_holds}
 use Rattle.ctl_face.proofs.Maps.{insert_keeps, remove_keeps}
-use Rattle.protocol_meaning.specs.Extent.{Extent, AreWithin, IsWithin}
-use Rattle.protocol_meaning.specs.Held.{TableWithin}
+use Rattle.protocol_meaning.specs.Prelude.{Extent, AreWithin, IsWithin, TableWithin}
 use Rattle.protocol_meaning.proofs.Bounds.{Bounds, IsKept, ViewWithin}
 
 module _ (e : Extent) where

@@ -6,19 +6,16 @@ use Rattle.ruby_value.specs.declared.fault.Fault.{Fault}
 use Rattle.ruby_value.specs.declared.fault.Fault.TheVariants.{Invalid}
 use Rattle.ruby_value.proofs.Contained.{Contains-cons_cases, Contains-cons_here, Contains-cons_there}
 use Rattle.run_journal.specs.declared.entry.StopAt.{StopAt}
-use Rattle.protocol_runs.specs.InvalidExactly.{invalid_at}
-use Rattle.ctl_face.specs.LocalView.{LocalView}
+use Rattle.protocol_runs.specs.Prelude.{invalid_at}
+use Rattle.ctl_face.specs.Prelude.{LocalView}
 use Rattle.acts.specs.declared.body_fault.BodyFault.{BodyFault}
 use Rattle.acts.specs.declared.body_fault.BodyFault.TheVariants as own
-use Rattle.acts.specs.Act.{Act, answer}
-use Rattle.acts.specs.Acting.{Acting, ends as ends_body, stops as stops_body, acts as acts_in, fault_of, follow, run}
-use Rattle.acts.specs.Done.{Done, does}
-use Rattle.acts.specs.Left.{IsLeft}
+use Rattle.acts.specs.Prelude.{Act, answer, Acting, ends as ends_body, stops as stops_body, acts as acts_in, fault_of, follow, run, Done, does, IsLeft}
 use Rattle.acts.proofs.Instances.{never_as_invalid}
 use Rattle.acts.proofs.Left.{left_by_act, left_here}
-use Rattle.body_meaning.specs.declared.tried.Known.{Known}
-use Rattle.body_meaning.specs.Trying.{Pair, Trying, ends, stops, acts, looks_up, follow_pairs, follow_scan, pairs_of, run_scan, stop_at, then_try, with_known}
-use Rattle.protocol_meaning.specs.Meaning.{tried_pair}
+use Rattle.body_meaning.specs.declared.frame.Known.{Known}
+use Rattle.body_meaning.specs.Prelude.{Pair, Trying, ends, stops, acts, looks_up, follow_pairs, follow_scan, pairs_of, run_scan, stop_at, then_try, with_known}
+use Rattle.protocol_meaning.specs.Prelude.{tried_pair}
 
 -- What is left.
 

@@ -7,9 +7,8 @@ use Rattle.std.proofs.lemmas.Bool.{cases_eq, or_left, or_right}
 use Rattle.std.proofs.lemmas.List.Elements.{All-cons, All-contains, All-head, All-nil, All-tail, All-weaker}
 use Rattle.std.proofs.lemmas.List.FromFn.{length-range_with_len}
 use Rattle.std.proofs.lemmas.List.Sums.{sum_by-le}
-use Rattle.ruby_topology.specs.declared.statement.Link.{Link}
-use Rattle.ruby_topology.specs.Paths.{IsLeastSum, Joins, LeadsTo}
-use Rattle.ruby_topology.specs.Search.{IsBetween}
+use Rattle.ruby_topology.specs.declared.forms.Link.{Link}
+use Rattle.ruby_topology.specs.Prelude.{IsLeastSum, Joins, LeadsTo, IsBetween}
 use Rattle.ruby_topology.proofs.Totals.{any_at}
 
 -- Numbers in a list, and a list without one of them.

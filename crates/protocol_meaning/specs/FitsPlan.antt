@@ -14,14 +14,11 @@ use Rattle.ruby_symbols.specs.declared.machine.TableSort.TheVariants as sort
 use Rattle.ruby_symbols.specs.declared.machine.TableSymbol.{TableSymbol}
 use Rattle.ruby_symbols.specs.declared.types.FieldSymbol.{FieldSymbol}
 use Rattle.slicc_ast.specs.declared.tree.item.Tree.{Tree}
-use Rattle.slicc_plan.specs.SymbolsOf.{symbols_of}
-use Rattle.ctl_face.specs.IsMachine.{IsMachine}
-use Rattle.ctl_face.specs.RoutesFit.{RoutesFit}
+use Rattle.slicc_plan.specs.Prelude.{symbols_of}
+use Rattle.ctl_face.specs.Prelude.{IsMachine, RoutesFit}
 use Rattle.ruby_topology.specs.declared.topology.Topology.{Topology}
-use Rattle.ruby_topology.specs.Topology.{members_from, name_of}
-use Rattle.protocol_runs.specs.IsSetting.{HasQueue}
-use Rattle.protocol_runs.specs.Machines.{machine_of}
-use Rattle.protocol_runs.specs.Setting.{SeatSetup}
+use Rattle.ruby_topology.specs.Prelude.{members_from, name_of}
+use Rattle.protocol_runs.specs.Prelude.{HasQueue, machine_of, SeatSetup}
 use Rattle.protocol_meaning.specs.Seats.{seat_setups}
 use Rattle.protocol_meaning.specs.Setups.{ranges_of, setups_of}
 

@@ -3,9 +3,8 @@
 use Rattle.std.specs.Prelude.{ℕ, IfSome}
 use Rattle.std.specs.FinMap as map
 use Rattle.std.specs.List.{All}
-use Rattle.ruby_value.specs.Cache.{Line}
-use Rattle.ctl_face.specs.Ctl.{Ctl, InboxMessage}
-use Rattle.ctl_face.specs.Table.{Table, CacheTable, DirectoryTable, TbeTable, ParameterTable}
+use Rattle.ruby_value.specs.Prelude.{Line}
+use Rattle.ctl_face.specs.Prelude.{Ctl, InboxMessage, Table, CacheTable, DirectoryTable, TbeTable, ParameterTable}
 use Rattle.protocol_meaning.specs.Extent.{Extent, AreWithin, IsMember}
 
 module _ (e : Extent) where

@@ -11,3 +11,4 @@ pub mod Runs
 pub mod FitsPlan
 pub mod Seats
 pub mod Setups
+pub mod Prelude

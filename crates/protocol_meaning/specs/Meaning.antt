@@ -6,18 +6,13 @@ use Rattle.std.specs.List.{list_any}
 use Rattle.slicc_ast.specs.declared.tree.item.Tree.{Tree}
 use Rattle.ruby_value.specs.declared.message.Message.{Message}
 use Rattle.ruby_symbols.specs.declared.machine.MachineSymbols.{MachineSymbols}
-use Rattle.protocol_runs.specs.RunRules.{Fired, Full, Idle, Outcome, Scan, Stop, Tried}
-use Rattle.ctl_face.specs.Ctl.{Ctl}
-use Rattle.ctl_face.specs.LocalView.{LocalView}
-use Rattle.body_meaning.specs.Reading.{Reading}
-use Rattle.slicc_plan.specs.SymbolsOf.{symbols_of}
-use Rattle.protocol_runs.specs.Meaning.{Meaning, acts_told}
-use Rattle.body_meaning.specs.declared.round.RoundEnd.{RoundEnd}
-use Rattle.body_meaning.specs.declared.round.RoundEnd.TheVariants as round
-use Rattle.body_meaning.specs.declared.tried.Tried.TheVariants.{Waits}
-use Rattle.body_meaning.specs.Scan.{Scanned, by_try, pairs_tried, scan}
-use Rattle.body_meaning.specs.Transition.{is_for}
-use Rattle.body_meaning.specs.Trying.{Pair}
+use Rattle.protocol_runs.specs.Prelude.{Fired, Full, Idle, Outcome, Scan, Stop, Tried, Meaning, acts_told}
+use Rattle.ctl_face.specs.Prelude.{Ctl, LocalView}
+use Rattle.body_meaning.specs.Prelude.{Reading, Scanned, by_try, pairs_tried, scan, is_for, Pair}
+use Rattle.slicc_plan.specs.Prelude.{symbols_of}
+use Rattle.body_meaning.specs.declared.frame.RoundEnd.{RoundEnd}
+use Rattle.body_meaning.specs.declared.frame.RoundEnd.TheVariants as round
+use Rattle.body_meaning.specs.declared.frame.Tried.TheVariants.{Waits}
 use Rattle.protocol_meaning.specs.Readings.{reading_of}
 
 -- Scans of a controller that has fired `fired_before` transitions in this cycle and may fire `limit`.

@@ -11,12 +11,11 @@ use Rattle.ruby_symbols.specs.declared.machine.TableSort.{TableSort}
 use Rattle.ruby_symbols.specs.declared.machine.TableSort.TheVariants as sort
 use Rattle.ruby_symbols.specs.declared.machine.TableSymbol.{TableSymbol}
 use Rattle.ruby_symbols.specs.declared.symbols.Symbols.{Symbols}
-use Rattle.ruby_symbols.specs.Numbers.{is_number}
-use Rattle.slicc_plan.specs.Declarations.{machines_of}
-use Rattle.slicc_plan.specs.SymbolsOf.{symbols_of}
+use Rattle.ruby_symbols.specs.Prelude.{is_number}
+use Rattle.slicc_plan.specs.Prelude.{machines_of, symbols_of}
 use Rattle.built_in_acts.specs.declared.machines.KeptMachines.{KeptMachines}
-use Rattle.built_in_acts.specs.declared.setting.CallSetting.{CallSetting}
-use Rattle.body_meaning.specs.Reading.{Reading}
+use Rattle.built_in_acts.specs.declared.call.CallSetting.{CallSetting}
+use Rattle.body_meaning.specs.Prelude.{Reading}
 
 -- of a table of this sort, whose lines have this structure
 abbrev pub has_tbe_references : (tbe : Option ℕ) (structure : ℕ) → TableSort → Bool

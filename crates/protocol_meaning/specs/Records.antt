@@ -3,20 +3,13 @@
 -- each worker, and one thread is worker 0 alone.
 use Rattle.std.specs.Prelude.{◌≡◌, ℕ, Some, List, [], ◌∷◌}
 use Rattle.ruby_value.specs.declared.message.Message.{Message}
-use Rattle.run_journal.specs.AreFinals.{AreFinals}
-use Rattle.run_journal.specs.Tally.{tally}
-use Rattle.protocol_runs.specs.Account.{account}
-use Rattle.protocol_runs.specs.RunRules.{Rules}
-use Rattle.protocol_runs.specs.Run.{HasEnded, IsRun}
-use Rattle.protocol_runs.specs.World.{World}
-use Rattle.ctl_face.specs.Ctl.{Ctl}
+use Rattle.run_journal.specs.Prelude.{AreFinals, tally}
+use Rattle.protocol_runs.specs.Prelude.{account, Rules, HasEnded, IsRun, World, rules, Setting}
+use Rattle.ctl_face.specs.Prelude.{Ctl}
 use Rattle.protocol_meaning.specs.Meaning.{meaning_of}
 use Rattle.protocol_meaning.specs.Setting.{setting_of}
-use Rattle.protocol_runs.specs.Rules.{rules}
-use Rattle.protocol_runs.specs.Setting.{Setting}
 use Rattle.protocol_meaning.specs.declared.record.RunRecord.{RunRecord}
-use Rattle.sequencer.specs.Drive.{Drive}
-use Rattle.sequencer.specs.Seats.{Seat}
+use Rattle.sequencer.specs.Prelude.{Drive, Seat}
 
 module _ {D : Type 0} (drive : D → List Seat → ℕ → Drive D) (driver : D) (r : RunRecord) where
   abbrev pub setting_in : Setting D

@@ -2,12 +2,11 @@
 -- was done to messages; of one in which nothing fires it is the controller as it was, but for the mark of a stall. And that a scan that
 -- fires goes on in the same scan.
 use Rattle.ruby_value.specs.declared.message.Message.{Message}
-use Rattle.protocol_runs.specs.RunRules.{Outcome}
-use Rattle.ctl_face.specs.Ctl.{Ctl}
-use Rattle.ctl_face.specs.LocalView.{LocalView, SameScan}
-use Rattle.body_meaning.specs.declared.round.RoundEnd.{RoundEnd}
-use Rattle.body_meaning.specs.declared.round.RoundEnd.TheVariants.{Fired, Idle}
-use Rattle.body_meaning.specs.Scan.{left_idle}
+use Rattle.protocol_runs.specs.Prelude.{Outcome}
+use Rattle.ctl_face.specs.Prelude.{Ctl, LocalView, SameScan}
+use Rattle.body_meaning.specs.declared.frame.RoundEnd.{RoundEnd}
+use Rattle.body_meaning.specs.declared.frame.RoundEnd.TheVariants.{Fired, Idle}
+use Rattle.body_meaning.specs.Prelude.{left_idle}
 use Rattle.protocol_meaning.specs.Meaning.{outcome_by}
 
 -- the local that a scan leaves, where code that did it has left this one

@@ -10,9 +10,9 @@ use Rattle.run_journal.specs.declared.entry.Entry.TheVariants as entry
 use Rattle.run_journal.specs.declared.entry.FireNote.{FireNote}
 use Rattle.run_journal.specs.declared.entry.StopAt.{StopAt}
 use Rattle.slicc_ast.specs.declared.tree.item.Tree.{Tree}
-use Rattle.slicc_plan.specs.SymbolsOf.{symbols_of}
-use Rattle.ctl_face.specs.Ctl.{Ctl}
-use Rattle.protocol_runs.specs.Machines.{machine_of}
+use Rattle.slicc_plan.specs.Prelude.{symbols_of}
+use Rattle.ctl_face.specs.Prelude.{Ctl}
+use Rattle.protocol_runs.specs.Prelude.{machine_of}
 use Rattle.protocol_meaning.specs.Extent.{Extent, members_of}
 use Rattle.protocol_meaning.specs.Held.{HoldsWithin}
 

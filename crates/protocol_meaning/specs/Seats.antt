@@ -2,11 +2,10 @@
 use Rattle.std.specs.Prelude.{ℕ, Option, List, map, slice_get, unwrap_or}
 use Rattle.std.specs.Option.{option_and_then}
 use Rattle.ruby_symbols.specs.declared.symbols.Symbols.{Symbols}
-use Rattle.ruby_symbols.specs.Names.{mandatory}
+use Rattle.ruby_symbols.specs.Prelude.{mandatory}
 use Rattle.ruby_topology.specs.declared.topology.Seat.{Seat}
 use Rattle.ruby_topology.specs.declared.topology.Topology.{Topology}
-use Rattle.protocol_runs.specs.Machines.{machine_of}
-use Rattle.protocol_runs.specs.Setting.{SeatSetup}
+use Rattle.protocol_runs.specs.Prelude.{machine_of, SeatSetup}
 use Rattle.protocol_meaning.specs.Setups.{ranges_of}
 
 -- the number of the buffer `mandatoryQueue` of a controller's machine

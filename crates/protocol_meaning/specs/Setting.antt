@@ -3,11 +3,11 @@
 -- seats, each with the buffer `mandatoryQueue` of the machine of its controller.
 use Rattle.std.specs.Prelude.{ℕ, List}
 use Rattle.slicc_ast.specs.declared.tree.item.Tree.{Tree}
-use Rattle.slicc_plan.specs.SymbolsOf.{symbols_of}
+use Rattle.slicc_plan.specs.Prelude.{symbols_of}
 use Rattle.ruby_topology.specs.declared.topology.Topology.{Topology}
 use Rattle.protocol_meaning.specs.Seats.{seat_setups}
 use Rattle.protocol_meaning.specs.Setups.{ranges_of, setups_of}
-use Rattle.protocol_runs.specs.Setting.{Setting}
+use Rattle.protocol_runs.specs.Prelude.{Setting}
 
 abbrev pub setting_of : {D : Type 0} → List Tree → Topology → (seed cycles limit : ℕ) → D → Setting D
 setting_of trees t seed cycles limit driver = record {

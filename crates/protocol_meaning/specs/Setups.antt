@@ -6,9 +6,9 @@ use Rattle.std.specs.List.{enumerate_from, filter_map}
 use Rattle.ruby_value.specs.declared.setup.MachineSetup.{MachineSetup}
 use Rattle.ruby_value.specs.declared.setup.Sizes.{Sizes}
 use Rattle.slicc_ast.specs.declared.tree.item.Tree.{Tree}
-use Rattle.slicc_plan.specs.Setups.{setup_of}
+use Rattle.slicc_plan.specs.Prelude.{setup_of}
 use Rattle.ruby_topology.specs.declared.topology.Topology.{Topology}
-use Rattle.ruby_topology.specs.Topology.{ranges_from}
+use Rattle.ruby_topology.specs.Prelude.{ranges_from}
 
 abbrev pub setups_of : List Tree → List Sizes → List MachineSetup
 setups_of trees sizes = filter_map (λ (n : ℕ × Sizes). setup_of trees n.0 n.1) (enumerate_from 0 sizes)

@@ -1,18 +1,11 @@
 // What holds of every scan. These functions do nothing: their contracts are the laws.
 ghost use Rattle.std.specs.Prelude.{◌≡◌, ℕ, List};
 ghost use Rattle.std.specs.List.{All};
-ghost use Rattle.ruby_value.specs.declared.setup.MachineSetup.{MachineSetup as MachineRecord};
-ghost use Rattle.ctl_face.specs.Fits.{IsLawful};
-ghost use Rattle.ctl_face.specs.FitsReceiver.{FitsReceiver};
-ghost use Rattle.ctl_face.specs.InRun.{IsInRun};
-ghost use Rattle.ctl_face.specs.LocalView.{LocalView, SameScan};
-ghost use Rattle.acts.specs.Added.{Added, AreNew, with_added};
-ghost use Rattle.acts.specs.Kept.{CountsStay, IsMarked, MarksStay};
-ghost use Rattle.acts.specs.Left.{IsLeft};
-ghost use Rattle.acts.specs.Mailed.{HasMailed};
-ghost use Rattle.body_meaning.specs.Reading.{Reading};
-ghost use Rattle.body_meaning.specs.Scan.{pairs_tried, scan};
-ghost use Rattle.protocol_meaning.specs.Adding.{scanned_with};
+ghost use Rattle.ruby_value.specs.declared.setup.MachineSetup.{MachineSetup};
+ghost use Rattle.ctl_face.specs.Prelude.{IsLawful, FitsReceiver, IsInRun, LocalView, SameScan};
+ghost use Rattle.acts.specs.Prelude.{Added, AreNew, with_added, CountsStay, IsMarked, MarksStay, IsLeft, HasMailed};
+ghost use Rattle.body_meaning.specs.Prelude.{Reading, pairs_tried, scan};
+ghost use Rattle.protocol_meaning.specs.Prelude.{scanned_with};
 
 /// However a scan ends, it leaves a local that acts leave of the one in which it began. So it stays lawful and in the same scan, counts
 /// no transition and doesn't stop the controller; no mark is taken away or set for this cycle, and no message that is to come is
@@ -29,7 +22,7 @@ pub fn scans_keep_what_holds()
         → IsMarked v → IsMarked (scan s limit fired v).view }
     ensures mailed { (s : Reading) (limit fired : ℕ) (v : LocalView)
         → IsLawful v → HasMailed (scan s limit fired v).view }
-    ensures receivers { (s : Reading) (limit fired : ℕ) (machines : List MachineRecord)
+    ensures receivers { (s : Reading) (limit fired : ℕ) (machines : List MachineSetup)
         (ranges : List (ℕ × ℕ)) (v : LocalView)
         → IsInRun machines ranges v
         → All (FitsReceiver machines ranges) (scan s limit fired v).view.acts.posted }

@@ -6,21 +6,18 @@
 #![tactic(auto)]
 
 mod every_scan;
-mod fit_laws;
 mod laws;
 mod machine_setups;
-mod member_laws;
 mod protocol;
 mod record;
 
 pub use every_scan::{scans_keep_what_holds, what_comes_later_changes_no_scan};
-pub use fit_laws::{plain_topologies_fit, topologies_fit};
 pub use laws::{
     calls_find_the_machines, fired_rounds_stay, meanings_are_lawful, needs_are_those_of_tries,
-    rounds_are_scans, settings_are_lawful,
+    plain_topologies_fit, rounds_are_scans, settings_are_lawful, topologies_fit,
+    values_stay_members,
 };
 pub use machine_setups::setups;
-pub use member_laws::values_stay_members;
 pub use protocol::Protocol;
 pub use record::RunRecord;
 pub use ruby_base::{NoMemory, Seq};

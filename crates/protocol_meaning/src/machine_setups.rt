@@ -1,6 +1,6 @@
 //! What all machines of a protocol are to their controllers.
 ghost use Rattle.std.specs.Prelude.{◌≡◌, ◌≤◌, IfOk, length};
-ghost use Rattle.protocol_meaning.specs.Setups.{setups_of};
+ghost use Rattle.protocol_meaning.specs.Prelude.{setups_of};
 
 use machine_setup::setup;
 use ruby_base::{NoMemory, Seq};

@@ -1,6 +1,6 @@
 ghost use Rattle.std.specs.Prelude.{List};
-ghost use Rattle.slicc_ast.specs.declared.tree.item.Tree.{Tree as TreeRecord};
-ghost use Rattle.body_meaning.specs.Round.{IsRoundOf};
+ghost use Rattle.slicc_ast.specs.declared.tree.item.Tree.{Tree};
+ghost use Rattle.body_meaning.specs.Prelude.{IsRoundOf};
 ghost use Rattle.protocol_meaning.specs.Meaning.{scan_of};
 
 use body_meaning::RoundEnd;
@@ -10,7 +10,7 @@ use std::alloc::Global;
 /// What does the scans of a protocol's controllers, whatever way it knows the protocol. It may serve several protocols, given by
 /// their trees: its scans are then those of each of them.
 pub trait Protocol {
-    ghost serves: { Self → List TreeRecord → Type 0 };
+    ghost serves: { Self → List Tree → Type 0 };
 
     /// One scan of a controller of this machine, in its local. The controller has fired `fired` transitions in this cycle and may
     /// fire `limit`. What the scan leaves of the local counts only where it has fired, and for whether a transition was stalled.
@@ -22,7 +22,7 @@ pub trait Protocol {
         fired: u64,
         limit: u64,
     ) -> Result<RoundEnd, NoMemory>
-        ensures { (trees : List TreeRecord) → serves self.now trees
+        ensures { (trees : List Tree) → serves self.now trees
             → IsRoundOf (scan_of trees machine limit fired (T.view local.old)) result
             (T.view local.new) (T.view local.old) };
 }

@@ -7,22 +7,13 @@ use Rattle.std.proofs.lemmas.List.{append-nil}
 use Rattle.std.proofs.lemmas.Option.{slice_get_within, slice_get-map}
 use Rattle.ruby_value.specs.declared.fault.Finding.{Finding}
 use Rattle.ruby_value.specs.declared.message.MsgNo.{MsgNo}
-use Rattle.ruby_value.specs.NumberBefore.{same_number}
+use Rattle.ruby_value.specs.Prelude.{same_number, numbers_from}
 use Rattle.run_journal.specs.declared.entry.Entry.{Entry}
 use Rattle.run_journal.specs.declared.entry.Entry.TheVariants as entry
 use Rattle.run_journal.specs.declared.event.Event.{Event}
 use Rattle.run_journal.specs.declared.verdict.Verdict.{Verdict}
-use Rattle.protocol_runs.specs.RunRules.{Rules, DriverTurn, Mailed}
-use Rattle.protocol_runs.specs.World.{Place, World, opening, opening_place}
-use Rattle.protocol_runs.specs.Verdict.{held_mail}
-use Rattle.protocol_runs.specs.Step.{Stepped, with_deliveries, changed_from, with_driver_turn, driver_turn_in, delivery_numbers, begun_place, stopped_by}
-use Rattle.protocol_runs.specs.Run.{Ran, IsRun}
-use Rattle.protocol_runs.specs.Account.{sent_numbers, consumed_numbers, sent_in, consumed_in, is_stalled, is_recycled, is_queued, times, account, IsAccounted}
-use Rattle.protocol_runs.specs.Change.{Change, Moves, Closes, Turns}
-use Rattle.protocol_runs.specs.Outcome.{driven_world, entry_of, IsOutcome, StopsAt, EndsWith, ContinuesAt}
+use Rattle.protocol_runs.specs.Prelude.{Rules, DriverTurn, Mailed, Place, World, opening, opening_place, held_mail, Stepped, with_deliveries, changed_from, with_driver_turn, driver_turn_in, delivery_numbers, begun_place, stopped_by, Ran, IsRun, sent_numbers, consumed_numbers, sent_in, consumed_in, is_stalled, is_recycled, is_queued, times, account, IsAccounted, Change, Moves, Closes, Turns, driven_world, entry_of, IsOutcome, StopsAt, EndsWith, ContinuesAt, KeepsMail, IsSound, CarriesMail}
 use Rattle.protocol_runs.proofs.Outcomes.{change-outcome}
-use Rattle.ruby_value.specs.NumbersFrom.{numbers_from}
-use Rattle.protocol_runs.specs.Premises.{KeepsMail, IsSound, CarriesMail}
 use Rattle.protocol_runs.proofs.Runs.{hold-along}
 use Rattle.protocol_runs.proofs.Places.{paired-map, changed, changed-length}
 use Rattle.protocol_runs.proofs.Fitting.{WorldFits, opening-fits, change-fits, asked-in, at-controller, controllers_in, served_places, served-grown}

@@ -8,21 +8,14 @@ use Rattle.std.proofs.lemmas.Bool.Decides.{nat_tests}
 use Rattle.std.proofs.lemmas.List.{append-nil, length-set}
 use Rattle.std.proofs.lemmas.List.Elements.{All-nil, All-cons, All-head, All-tail}
 use Rattle.ruby_value.specs.declared.message.MsgNo.{MsgNo}
-use Rattle.ruby_value.specs.NumberBefore.{same_number}
+use Rattle.ruby_value.specs.Prelude.{same_number, numbers_from}
 use Rattle.ruby_value.specs.declared.message.Sent.{Sent}
 use Rattle.run_journal.specs.declared.entry.End.{End}
 use Rattle.run_journal.specs.declared.entry.Entry.{Entry}
 use Rattle.run_journal.specs.declared.entry.FireNote.{FireNote}
 use Rattle.run_journal.specs.declared.event.Event.{Event}
-use Rattle.protocol_runs.specs.RunRules.{Rules, Acts, Mailed}
+use Rattle.protocol_runs.specs.Prelude.{Rules, Acts, Mailed, Place, World, held_mail, Moved, fired_entry, with_controller, with_arrival, with_delivery_at, with_delivery, with_deliveries, with_moved, delivery_numbers, sent_numbers, consumed_numbers, sent_in, consumed_in, times, Ends, Idled, Filled, Halted, Move, Taken, FiredBy, EndedBy, Released, mail_numbers, IsOnce, KeepsMail, MovesMail, AllSuit, IsSound, CarriesMail}
 use Rattle.ruby_value.specs.declared.message.Delivery.{Delivery}
-use Rattle.protocol_runs.specs.World.{Place, World}
-use Rattle.protocol_runs.specs.Verdict.{held_mail}
-use Rattle.protocol_runs.specs.Step.{Moved, fired_entry, with_controller, with_arrival, with_delivery_at, with_delivery, with_deliveries, with_moved, delivery_numbers}
-use Rattle.protocol_runs.specs.Account.{sent_numbers, consumed_numbers, sent_in, consumed_in, times}
-use Rattle.protocol_runs.specs.Change.{Ends, Idled, Filled, Halted, Move, Taken, FiredBy, EndedBy, Released}
-use Rattle.ruby_value.specs.NumbersFrom.{numbers_from}
-use Rattle.protocol_runs.specs.Premises.{mail_numbers, IsOnce, KeepsMail, MovesMail, AllSuit, IsSound, CarriesMail}
 use Rattle.protocol_runs.proofs.Places.{Paired, paired-same, paired-set, paired-trans, set-at, AllFit, set-fits, deliveries-length, deliveries-grown}
 use Rattle.protocol_runs.proofs.Fitting.{WorldFits}
 use Rattle.protocol_runs.proofs.Tallies.{one, tally, counted, tally-map, tally-set, tally-within, tally-more}

@@ -4,16 +4,9 @@ use Rattle.std.proofs.lemmas.List.{length-append, length-replicate}
 use Rattle.std.proofs.lemmas.List.Elements.{All-replicate}
 use Rattle.std.specs.Option.{option_and_then}
 use Rattle.ruby_value.specs.declared.setup.MachineSetup.{MachineSetup}
-use Rattle.ctl_face.specs.Ctl.{Ctl}
-use Rattle.ctl_face.specs.InRun.{IsController}
-use Rattle.ctl_face.specs.IsMachine.{IsMachine}
-use Rattle.ctl_face.specs.Opening.{opening_ctl}
-use Rattle.ctl_face.specs.RoutesFit.{AreNumbered, IsOfMachine}
+use Rattle.ctl_face.specs.Prelude.{Ctl, IsController, IsMachine, opening_ctl, AreNumbered, IsOfMachine}
 use Rattle.ctl_face.proofs.Lines.{All-found}
-use Rattle.protocol_runs.specs.IsSetting.{IsSetting}
-use Rattle.protocol_runs.specs.Machines.{actor_of, machine_of, setup_of}
-use Rattle.protocol_runs.specs.Rules.{opening_controllers}
-use Rattle.protocol_runs.specs.Setting.{Setting}
+use Rattle.protocol_runs.specs.Prelude.{IsSetting, actor_of, machine_of, setup_of, opening_controllers, Setting}
 use Rattle.protocol_runs.proofs.Ranges.{below-free, machine-is, machine-says}
 
 -- what is known of something that may be missing

@@ -1,8 +1,7 @@
 -- What a driver must be for the laws of runs to hold, as the trait of drivers has it: at any seats that fit it, in any cycle of a run,
 -- its turn is lawful, and no turn changes how many seats it needs.
 use Rattle.std.specs.Prelude.{◌≡◌, ◌≤◌, ◌^◌, ℕ, List}
-use Rattle.sequencer.specs.Drive.{Drive, IsLawful}
-use Rattle.sequencer.specs.Seats.{FitSeats, Seat, Seating}
+use Rattle.sequencer.specs.Prelude.{Drive, IsLawful, FitSeats, Seat, Seating}
 
 pub record IsDriver {D : Type 0} (drive : D → List Seat → ℕ → Drive D) (needs : D → ℕ → ℕ) (least : D → ℕ) : Type 0 where
   pub lawful :

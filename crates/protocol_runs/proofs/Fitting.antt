@@ -4,19 +4,12 @@ use Rattle.std.proofs.lemmas.List.{length-set, length-map}
 use Rattle.std.proofs.lemmas.List.Elements.{All-nil}
 use Rattle.std.proofs.lemmas.Option.{slice_get-map}
 use Rattle.std.specs.Option.{option_map}
-use Rattle.ruby_value.specs.Ascending.{has_mark}
+use Rattle.ruby_value.specs.Prelude.{has_mark}
 use Rattle.run_journal.specs.declared.entry.End.{End}
 use Rattle.run_journal.specs.declared.entry.Entry.{Entry}
 use Rattle.run_journal.specs.declared.event.Event.{Event}
-use Rattle.protocol_runs.specs.RunRules.{Rules}
-use Rattle.protocol_runs.specs.World.{Place, World, must_wake, opening, opening_place}
-use Rattle.protocol_runs.specs.Verdict.{above}
-use Rattle.protocol_runs.specs.Step.{Stepped, Moved, with_moved, with_deliveries, changed_from, with_driver_turn, driver_turn_in, begun_place}
-use Rattle.protocol_runs.specs.Run.{IsRun}
-use Rattle.protocol_runs.specs.Change.{Ends, Idled, Filled, Halted, Move, Taken, FiredBy, EndedBy, Released, Change, Moves, Closes, Turns}
-use Rattle.protocol_runs.specs.Outcome.{driven_world, IsOutcome, StopsAt, EndsWith, ContinuesAt}
+use Rattle.protocol_runs.specs.Prelude.{Rules, Place, World, must_wake, opening, opening_place, above, Stepped, Moved, with_moved, with_deliveries, changed_from, with_driver_turn, driver_turn_in, begun_place, IsRun, Ends, Idled, Filled, Halted, Move, Taken, FiredBy, EndedBy, Released, Change, Moves, Closes, Turns, driven_world, IsOutcome, StopsAt, EndsWith, ContinuesAt, IsSound, IsAsked, Keeps, AllSuit}
 use Rattle.protocol_runs.proofs.Outcomes.{change-outcome}
-use Rattle.protocol_runs.specs.Premises.{IsSound, IsAsked, Keeps, AllSuit}
 use Rattle.protocol_runs.proofs.Runs.{hold-along}
 use Rattle.protocol_runs.proofs.Places.{mapped-from, Paired, paired-back, paired-map, changed, changed-length, deliveries-length, IsLater, AllFit, set-fits, IsGrown, grown-grown, deliveries-grown}
 

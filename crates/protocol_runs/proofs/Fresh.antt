@@ -2,15 +2,10 @@
 use Rattle.std.proofs.Common.{◌≡◌, ◌≤◌, ◌&&◌, ◌==◌, ℕ, Bool, true, false, cond, Option, None, Some, List, length, refl, sym, ap, slice_get, eqb, ltb, arith}
 use Rattle.std.proofs.lemmas.Bool.{le-ltb}
 use Rattle.ruby_value.specs.declared.message.MsgNo.{MsgNo}
-use Rattle.ruby_value.specs.NumberBefore.{same_number}
+use Rattle.ruby_value.specs.Prelude.{same_number}
 use Rattle.run_journal.specs.declared.entry.Entry.{Entry}
 use Rattle.run_journal.specs.declared.event.Event.{Event}
-use Rattle.protocol_runs.specs.Fresh.{given, given_at, HasFreshNumbers}
-use Rattle.protocol_runs.specs.Premises.{mail_numbers, CarriesMail, IsSound}
-use Rattle.protocol_runs.specs.RunRules.{Rules, Mailed}
-use Rattle.protocol_runs.specs.Run.{IsRun}
-use Rattle.protocol_runs.specs.World.{Place, World}
-use Rattle.protocol_runs.specs.Verdict.{held_mail}
+use Rattle.protocol_runs.specs.Prelude.{given, given_at, HasFreshNumbers, mail_numbers, CarriesMail, IsSound, Rules, Mailed, IsRun, Place, World, held_mail}
 use Rattle.protocol_runs.proofs.Accounted.{kept-along}
 use Rattle.protocol_runs.proofs.Accounting.{stands, stands_by}
 use Rattle.protocol_runs.proofs.Fitting.{world-fits}

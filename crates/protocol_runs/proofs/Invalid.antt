@@ -10,13 +10,7 @@ use Rattle.run_journal.specs.declared.entry.Entry.TheVariants.{Ended}
 use Rattle.run_journal.specs.declared.entry.StopAt.{StopAt}
 use Rattle.run_journal.specs.declared.event.Event.{Event}
 use Rattle.run_journal.specs.declared.event.Event.TheVariants.{Take, Fire, Done, Release, Turn}
-use Rattle.protocol_runs.specs.RunRules.{Rules, Outcome, Full, Fired, Stop, Idle}
-use Rattle.protocol_runs.specs.World.{Place, World}
-use Rattle.protocol_runs.specs.Step.{Stepped, Moved}
-use Rattle.protocol_runs.specs.Run.{Ran, IsRun}
-use Rattle.protocol_runs.specs.InvalidExactly.{invalid_at, IsExact, EndsExactly, NeverFires, InvalidExactly}
-use Rattle.protocol_runs.specs.Change.{Ends, Idled, Filled, Halted, Move, Taken, FiredBy, EndedBy, Released, Change, Moves, Closes, Turns}
-use Rattle.protocol_runs.specs.Premises.{IsSound, ReportsInvalid}
+use Rattle.protocol_runs.specs.Prelude.{Rules, Outcome, Full, Fired, Stop, Idle, Place, World, Stepped, Moved, Ran, IsRun, invalid_at, IsExact, EndsExactly, NeverFires, InvalidExactly, Ends, Idled, Filled, Halted, Move, Taken, FiredBy, EndedBy, Released, Change, Moves, Closes, Turns, IsSound, ReportsInvalid}
 use Rattle.protocol_runs.proofs.Runs.{with_step, headed, rest-path, extends}
 use Rattle.protocol_runs.proofs.Fitting.{all-fit}
 

@@ -3,15 +3,7 @@ use Rattle.std.proofs.Common.{◌≡◌, ◌+◌, ◌∙◌, ℕ, List, None, So
 use Rattle.std.proofs.lemmas.Option.{same_Some}
 use Rattle.run_journal.specs.declared.entry.Entry.{Entry}
 use Rattle.run_journal.specs.declared.event.Event.{Event}
-use Rattle.protocol_runs.specs.Account.{IsAccounted, account}
-use Rattle.protocol_runs.specs.Alone.{IsAlone}
-use Rattle.protocol_runs.specs.Fresh.{HasFreshNumbers}
-use Rattle.protocol_runs.specs.InvalidExactly.{InvalidExactly}
-use Rattle.protocol_runs.specs.MarksStay.{MarksStay}
-use Rattle.protocol_runs.specs.Step.{Stepped, step}
-use Rattle.protocol_runs.specs.Run.{HasEnded, IsRun, Ran}
-use Rattle.protocol_runs.specs.WakesOnce.{WakesOnce}
-use Rattle.protocol_runs.specs.World.{Place, World}
+use Rattle.protocol_runs.specs.Prelude.{IsAccounted, account, IsAlone, HasFreshNumbers, InvalidExactly, MarksStay, Stepped, step, HasEnded, IsRun, Ran, WakesOnce, Place, World, IsSetting, FitsRun, HasSeats, SuitsReceiver, IsMeaning, Meaning, rules, Setting, seats_in}
 use Rattle.protocol_runs.proofs.Accounted as accounting
 use Rattle.protocol_runs.proofs.Fitting as fitting
 use Rattle.protocol_runs.proofs.Fresh.{fresh-numbers}
@@ -19,15 +11,8 @@ use Rattle.protocol_runs.proofs.Invalid as invalid
 use Rattle.protocol_runs.proofs.Marks.{marks-stay}
 use Rattle.protocol_runs.proofs.OneRun as one
 use Rattle.protocol_runs.proofs.Woken as waking
-use Rattle.ctl_face.specs.Ctl.{Ctl}
-use Rattle.sequencer.specs.Drive.{Drive}
-use Rattle.sequencer.specs.Seats.{FitSeats, Seat}
-use Rattle.protocol_runs.specs.IsSetting.{IsSetting}
-use Rattle.protocol_runs.specs.Kept.{FitsRun, HasSeats, SuitsReceiver}
-use Rattle.protocol_runs.specs.Meaning.{IsMeaning, Meaning}
-use Rattle.protocol_runs.specs.Rules.{rules}
-use Rattle.protocol_runs.specs.Setting.{Setting}
-use Rattle.protocol_runs.specs.Turn.{seats_in}
+use Rattle.ctl_face.specs.Prelude.{Ctl}
+use Rattle.sequencer.specs.Prelude.{Drive, FitSeats, Seat}
 use Rattle.protocol_runs.proofs.Driver.{IsDriver}
 use Rattle.protocol_runs.proofs.Turns.{seats-fit}
 use Rattle.protocol_runs.proofs.Premises.{carries_mail, keeps_marks, reports_invalid, sound}

@@ -4,14 +4,7 @@ use Rattle.std.proofs.lemmas.Option.{slice_get-map}
 use Rattle.std.specs.Option.{option_map}
 use Rattle.run_journal.specs.declared.entry.Entry.{Entry}
 use Rattle.run_journal.specs.declared.event.Event.{Event}
-use Rattle.protocol_runs.specs.RunRules.{Rules}
-use Rattle.protocol_runs.specs.World.{Place, World}
-use Rattle.protocol_runs.specs.Step.{Stepped, begun_place, with_moved, step}
-use Rattle.protocol_runs.specs.Run.{IsRun}
-use Rattle.protocol_runs.specs.Premises.{IsSound, KeepsMarks}
-use Rattle.protocol_runs.specs.Change.{Change, Moves, Closes, Turns}
-use Rattle.protocol_runs.specs.MarksStay.{MarksStay, marked_at}
-use Rattle.protocol_runs.specs.Outcome.{driven_world, IsOutcome, StopsAt, EndsWith, ContinuesAt}
+use Rattle.protocol_runs.specs.Prelude.{Rules, Place, World, Stepped, begun_place, with_moved, step, IsRun, IsSound, KeepsMarks, Change, Moves, Closes, Turns, MarksStay, marked_at, driven_world, IsOutcome, StopsAt, EndsWith, ContinuesAt}
 use Rattle.protocol_runs.proofs.Outcomes.{change-outcome}
 use Rattle.protocol_runs.proofs.Steps.{step-changes, step-running}
 use Rattle.protocol_runs.proofs.Places.{AreLater, set-at}

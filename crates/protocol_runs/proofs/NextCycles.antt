@@ -2,11 +2,8 @@
 use Rattle.std.proofs.Common.{◌≡◌, ◌<◌, ◌≤◌, ◌⊎◌, ℕ, zero, suc, ◌==◌, Option, None, Some, List, [], ◌∷◌, min, nat_lt, refl, sym, subst, ap, inl, inr, ⊎_elim, IsTrue, eqb-true, eq-eqb, arith}
 use Rattle.std.proofs.lemmas.Bool.{cases_lt, or_right, or_left, or_cases, cond_both, ltb-true, ltb-false}
 use Rattle.std.proofs.lemmas.Option.{same_Some}
-use Rattle.ruby_value.specs.Ascending.{has_mark}
-use Rattle.protocol_runs.specs.RunRules.{Rules}
-use Rattle.protocol_runs.specs.World.{Place, must_wake}
-use Rattle.protocol_runs.specs.NextCycle.{IsLeastAboveIfAny, MustAct, IsNextCycle}
-use Rattle.protocol_runs.specs.Verdict.{earlier, above, least_above, later, next_cycle}
+use Rattle.ruby_value.specs.Prelude.{has_mark}
+use Rattle.protocol_runs.specs.Prelude.{Rules, Place, must_wake, IsLeastAboveIfAny, MustAct, IsNextCycle, earlier, above, least_above, later, next_cycle}
 
 -- two properties that hold of the same cycles
 like : (P Q : ℕ → Type 0) (now : ℕ) → ((m : ℕ) → P m → Q m) → ((m : ℕ) → Q m → P m) → (o : Option ℕ) → IsLeastAboveIfAny P now o → IsLeastAboveIfAny Q now o

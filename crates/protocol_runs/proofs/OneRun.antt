@@ -11,13 +11,7 @@ use Rattle.run_journal.specs.declared.entry.End.{End}
 use Rattle.run_journal.specs.declared.entry.Entry.{Entry}
 use Rattle.run_journal.specs.declared.event.Event.{Event}
 use Rattle.run_journal.specs.declared.event.Event.TheVariants.{Take, Fire, Done, Turn}
-use Rattle.protocol_runs.specs.RunRules.{Rules, Outcome}
-use Rattle.protocol_runs.specs.World.{Place, World, is_due, is_free, is_held, opening}
-use Rattle.protocol_runs.specs.Step.{Stepped, Moved, is_busy, with_moved, step}
-use Rattle.protocol_runs.specs.Run.{Ran, IsRun, HasEnded, start}
-use Rattle.protocol_runs.specs.Alone.{IsAloneEvent, IsAlone}
-use Rattle.protocol_runs.specs.Change.{Ends, Idled, Filled, Halted, Move, Taken, FiredBy, EndedBy, Released, IsIdle, Change, Moves, Closes, Turns}
-use Rattle.protocol_runs.specs.Premises.{IsSound}
+use Rattle.protocol_runs.specs.Prelude.{Rules, Outcome, Place, World, is_due, is_free, is_held, opening, Stepped, Moved, is_busy, with_moved, step, Ran, IsRun, HasEnded, start, IsAloneEvent, IsAlone, Ends, Idled, Filled, Halted, Move, Taken, FiredBy, EndedBy, Released, IsIdle, Change, Moves, Closes, Turns, IsSound}
 use Rattle.protocol_runs.proofs.Runs.{Path, with_step, headed, run-path, run-more}
 use Rattle.protocol_runs.proofs.Places.{set-at, paired-back, IsLater}
 use Rattle.protocol_runs.proofs.Fitting.{moved-grown, WorldFits, change-fits, opening-fits}

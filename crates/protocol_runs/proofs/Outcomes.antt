@@ -12,14 +12,7 @@ use Rattle.run_journal.specs.declared.event.Event.{Event}
 use Rattle.run_journal.specs.declared.event.Event.TheVariants.{Turn}
 use Rattle.run_journal.specs.declared.verdict.Verdict.{Verdict}
 use Rattle.run_journal.specs.declared.verdict.Verdict.TheVariants as verdict
-use Rattle.protocol_runs.specs.RunRules.{Rules}
-use Rattle.protocol_runs.specs.World.{Place, World}
-use Rattle.protocol_runs.specs.Verdict.{journal_limit, mail_limit, too_long, too_full, first_of, verdict_after, least_stopped}
-use Rattle.protocol_runs.specs.Step.{begun_place, Stepped, next_world, next_in, driver_turn_in, step}
-use Rattle.protocol_runs.specs.WakesOnce.{is_turn, wakes_at}
-use Rattle.protocol_runs.specs.Premises.{KeepsMarks}
-use Rattle.protocol_runs.specs.Change.{Change, Moves, Closes, Turns}
-use Rattle.protocol_runs.specs.Outcome.{IsLeastStopped, HasNoneStopped, driven_world, Finds, messages_in, IsNextFrom, IsWithin, Incoherent, Deadlock, Passed, Quiet, Cycles, Journal, Mail, entry_of, IsOutcome, WakesAsMarked, StopsAt, EndsWith, ContinuesAt}
+use Rattle.protocol_runs.specs.Prelude.{Rules, Place, World, journal_limit, mail_limit, too_long, too_full, first_of, verdict_after, least_stopped, begun_place, Stepped, next_world, next_in, driver_turn_in, step, is_turn, wakes_at, KeepsMarks, Change, Moves, Closes, Turns, IsLeastStopped, HasNoneStopped, driven_world, Finds, messages_in, IsNextFrom, IsWithin, Incoherent, Deadlock, Passed, Quiet, Cycles, Journal, Mail, entry_of, IsOutcome, WakesAsMarked, StopsAt, EndsWith, ContinuesAt}
 use Rattle.protocol_runs.proofs.NextCycles.{next_cycle-is}
 use Rattle.protocol_runs.proofs.Steps.{step-changes, move-quiet}
 

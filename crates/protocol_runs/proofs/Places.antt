@@ -3,12 +3,9 @@ use Rattle.std.proofs.Common.{◌≡◌, ◌≢◌, ◌+◌, ◌<◌, IsTrue, �
 use Rattle.std.proofs.lemmas.List.{length-set}
 use Rattle.std.proofs.lemmas.List.Elements.{All-head, All-tail}
 use Rattle.std.proofs.lemmas.Option.{same_Some}
-use Rattle.protocol_runs.specs.RunRules.{Rules}
+use Rattle.protocol_runs.specs.Prelude.{Rules, Place, must_wake, with_arrival, with_delivery_at, with_delivery, with_deliveries, changed_from, with_controller, IsSound, AllSuit}
 use Rattle.ruby_value.specs.declared.message.Delivery.{Delivery}
-use Rattle.ruby_value.specs.Ascending.{has_mark}
-use Rattle.protocol_runs.specs.World.{Place, must_wake}
-use Rattle.protocol_runs.specs.Step.{with_arrival, with_delivery_at, with_delivery, with_deliveries, changed_from, with_controller}
-use Rattle.protocol_runs.specs.Premises.{IsSound, AllSuit}
+use Rattle.ruby_value.specs.Prelude.{has_mark}
 
 -- a fact of each element with its number, where one element is changed
 pub set-at : {X : Type 0} (P : Option X → Type 0) (xs : List X) (d c : ℕ) (x y : X) → slice_get xs d ≡ Some x

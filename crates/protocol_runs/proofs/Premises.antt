@@ -6,42 +6,27 @@ use Rattle.std.proofs.lemmas.Bool.Decides.{nat_tests}
 use Rattle.std.proofs.lemmas.List.Elements.{All-cons, All-nil, All-weaker}
 use Rattle.std.proofs.lemmas.List.Sums.{sum_by-cons}
 use Rattle.std.proofs.lemmas.Option.{same_Some}
-use Rattle.ruby_value.specs.Ascending.{has_mark, marks_from, with_mark}
+use Rattle.ruby_value.specs.Prelude.{has_mark, marks_from, with_mark, number_before, same_number}
 use Rattle.ruby_value.specs.declared.fault.Fault.TheVariants.{Invalid}
 use Rattle.ruby_value.specs.declared.message.Delivery.{Delivery}
 use Rattle.ruby_value.specs.declared.message.Message.{Message}
 use Rattle.ruby_value.specs.declared.message.MsgNo.{MsgNo}
 use Rattle.ruby_value.specs.declared.setup.MachineSetup.{MachineSetup}
-use Rattle.ruby_value.specs.NumberBefore.{number_before, same_number}
 use Rattle.run_journal.specs.declared.entry.FireNote.{FireNote}
 use Rattle.run_journal.specs.declared.entry.StopAt.{StopAt}
-use Rattle.protocol_runs.specs.Account.{times}
-use Rattle.protocol_runs.specs.InvalidExactly.{IsInvalidTry, invalid_at}
+use Rattle.protocol_runs.specs.Prelude.{times, IsInvalidTry, invalid_at, Acts, Fired, Idle, Rules, Stop, Tried, IsSetting, FitsRun, HasSeats, SuitsReceiver, setup_of, acts_at, seats_in, IsFired, IsMeaning, Meaning, Rests, acts_told, has_row_of, mailed, rules, Setting}
 use Rattle.protocol_runs.specs.Premises as runs
 use Rattle.protocol_runs.specs.RunRules as runs_rules
-use Rattle.protocol_runs.specs.RunRules.{Acts, Fired, Idle, Rules, Stop, Tried}
-use Rattle.ctl_face.specs.ActsFit.{numbers_in}
-use Rattle.ctl_face.specs.Between.{with_arrival, with_one_fired, with_stop, with_wake_up}
-use Rattle.ctl_face.specs.Ctl.{Ctl, InboxMessage, Mail}
-use Rattle.ctl_face.specs.Fits.{Fits}
+use Rattle.ctl_face.specs.Prelude.{numbers_in, with_arrival, with_one_fired, with_stop, with_wake_up, Ctl, InboxMessage, Mail, Fits, incoming_message, TakesFields}
 use Rattle.ctl_face.specs.Inbox.{with_message}
-use Rattle.ctl_face.specs.Mailing.{incoming_message}
-use Rattle.ctl_face.specs.OfMachine.{TakesFields}
 use Rattle.ctl_face.proofs.Betweens.{arrival_keeps, begun_keeps, driver_mail, halted_keeps, wake_up_keeps}
 use Rattle.ctl_face.proofs.Moved as moved
 use Rattle.ctl_face.proofs.OneKey.{marks_from-has, with_mark-has}
 use Rattle.ctl_face.proofs.Opened.{opening_fits}
-use Rattle.acts.specs.Kept.{AreMarked}
+use Rattle.acts.specs.Prelude.{AreMarked}
 use Rattle.acts.proofs.Marks.{marked_put, marked_with, marks_kept, marks_with, same_bool}
 use Rattle.sequencer.specs.Drive as own
-use Rattle.sequencer.specs.Seats.{Seat}
-use Rattle.protocol_runs.specs.IsSetting.{IsSetting}
-use Rattle.protocol_runs.specs.Kept.{FitsRun, HasSeats, SuitsReceiver}
-use Rattle.protocol_runs.specs.Machines.{setup_of}
-use Rattle.protocol_runs.specs.Turn.{acts_at, seats_in}
-use Rattle.protocol_runs.specs.Meaning.{IsFired, IsMeaning, Meaning, Rests, acts_told}
-use Rattle.protocol_runs.specs.Rules.{has_row_of, mailed, rules}
-use Rattle.protocol_runs.specs.Setting.{Setting}
+use Rattle.sequencer.specs.Prelude.{Seat}
 use Rattle.protocol_runs.proofs.Controllers.{Opened, and-some, lawful-machine, one-by, opened, setup-is}
 use Rattle.protocol_runs.proofs.Driver.{IsDriver}
 use Rattle.protocol_runs.proofs.Scans.{Fitting, begun, copies-suit, fits-run, fitting, left-awake, left-few, left-fits, left-later, left-marked, maps-join, moves, scan-of}

@@ -5,8 +5,8 @@ use Rattle.std.proofs.lemmas.List.Quantifiers.{position-Some}
 use Rattle.std.proofs.lemmas.List.Sums.{fails_before_first}
 use Rattle.std.proofs.lemmas.Option.{get_or_from_slice_get, slice_get-get_or, slice_get_within}
 use Rattle.std.specs.List.{position_or_len}
-use Rattle.ctl_face.specs.RoutesFit.{AreNumbered, IsOfMachine}
-use Rattle.protocol_runs.specs.Machines.{is_in_range, machine_of}
+use Rattle.ctl_face.specs.Prelude.{AreNumbered, IsOfMachine}
+use Rattle.protocol_runs.specs.Prelude.{is_in_range, machine_of}
 
 abbrev IsIn : ℕ → ℕ × ℕ → Type 0
 IsIn c r = (r.0 ≤ c) × (c < r.0 + r.1)

@@ -7,11 +7,7 @@ use Rattle.std.proofs.lemmas.List.Sums.{fold-append}
 use Rattle.std.proofs.lemmas.Option.{same_Some}
 use Rattle.run_journal.specs.declared.entry.Entry.{Entry}
 use Rattle.run_journal.specs.declared.event.Event.{Event}
-use Rattle.protocol_runs.specs.RunRules.{Rules}
-use Rattle.protocol_runs.specs.World.{World}
-use Rattle.protocol_runs.specs.Step.{Stepped, step}
-use Rattle.protocol_runs.specs.Run.{Ran, ran_on, go_on, start, IsRun}
-use Rattle.protocol_runs.specs.Change.{Change}
+use Rattle.protocol_runs.specs.Prelude.{Rules, World, Stepped, step, Ran, ran_on, go_on, start, IsRun, Change}
 use Rattle.protocol_runs.proofs.Steps.{step-changes, step-running}
 
 -- the run with one step more

@@ -7,16 +7,11 @@ use Rattle.ruby_value.specs.declared.message.Delivery.{Delivery}
 use Rattle.ruby_value.specs.declared.message.Message.{Message}
 use Rattle.run_journal.specs.declared.entry.FireNote.{FireNote}
 use Rattle.run_journal.specs.declared.entry.StopAt.{StopAt}
-use Rattle.protocol_runs.specs.RunRules.{Acts, Fired, Full, Idle, Outcome, Stop, Tried}
-use Rattle.ctl_face.specs.Ctl.{Ctl}
-use Rattle.ctl_face.specs.LocalView.{LocalView}
-use Rattle.ctl_face.specs.ScanView.{scan_view}
-use Rattle.acts.specs.Acting.{run}
-use Rattle.acts.specs.Done.{Done}
+use Rattle.protocol_runs.specs.Prelude.{Acts, Fired, Full, Idle, Outcome, Stop, Tried, IsFired, IsMeaning, Rests, outcome_of, sample, taking}
+use Rattle.ctl_face.specs.Prelude.{Ctl, LocalView, scan_view}
+use Rattle.acts.specs.Prelude.{run, Done}
 use Rattle.acts.proofs.Instances.{never_as_invalid}
 use Rattle.acts.proofs.Left.{left_by}
-use Rattle.protocol_runs.specs.Meaning.{IsFired, IsMeaning, Rests}
-use Rattle.protocol_runs.specs.Sample.{outcome_of, sample, taking}
 
 -- what is known of an outcome, by which one it is
 record Answers (v : LocalView) (limit : ℕ) (o : Outcome Ctl Message) : Type 0 where

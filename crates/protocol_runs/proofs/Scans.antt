@@ -2,40 +2,23 @@
 use Rattle.std.proofs.Common.{◌≡◌, ◌<◌, ◌≤◌, ◌+◌, ℕ, List, [], ◌∷◌, Option, All, IsTrue, slice_get, map, length, refl, sym, ap, subst, ◌∙◌, arith}
 use Rattle.std.specs.Prelude.{count_by}
 use Rattle.std.proofs.lemmas.List.Elements.{All-weaker}
-use Rattle.ruby_value.specs.Ascending.{has_mark}
+use Rattle.ruby_value.specs.Prelude.{has_mark}
 use Rattle.ruby_value.specs.declared.message.Delivery.{Delivery}
 use Rattle.ruby_value.specs.declared.message.Message.{Message}
 use Rattle.ruby_value.specs.declared.message.Sent.{Sent}
 use Rattle.ruby_value.specs.declared.setup.MachineSetup.{MachineSetup}
 use Rattle.protocol_runs.specs.Premises as runs
 use Rattle.protocol_runs.specs.RunRules as runs_rules
-use Rattle.protocol_runs.specs.RunRules.{Rules}
-use Rattle.protocol_runs.specs.Step.{delivery_numbers}
-use Rattle.ctl_face.specs.ActsFit.{numbers_in}
-use Rattle.ctl_face.specs.Between.{with_one_fired}
-use Rattle.ctl_face.specs.Ctl.{Ctl, InboxMessage}
-use Rattle.ctl_face.specs.Fits.{Fits, IsLawful}
-use Rattle.ctl_face.specs.FitsReceiver.{FitsReceiver}
-use Rattle.ctl_face.specs.InRun.{IsInRun}
-use Rattle.ctl_face.specs.LocalView.{Actor, LocalView, SameScan}
-use Rattle.ctl_face.specs.OfMachine.{TakesFields}
-use Rattle.ctl_face.specs.ScanView.{scan_view}
+use Rattle.protocol_runs.specs.Prelude.{Rules, delivery_numbers, IsSetting, FitsRun, SuitsReceiver, actor_of, setup_of, IsMeaning, IsScanOf, Meaning, acts_told, mailed, rules, scan_by, scan_of, Setting}
+use Rattle.ctl_face.specs.Prelude.{numbers_in, with_one_fired, Ctl, InboxMessage, Fits, IsLawful, FitsReceiver, IsInRun, Actor, LocalView, SameScan, TakesFields, scan_view}
 use Rattle.ctl_face.proofs.Betweens.{fired_keeps}
 use Rattle.ctl_face.proofs.LawfulAfter.{scan_begins}
 use Rattle.ctl_face.proofs.OwnBuffers.{fit_each}
-use Rattle.acts.specs.Kept.{AreMarked, IsMarked}
-use Rattle.acts.specs.Left.{IsLeft}
+use Rattle.acts.specs.Prelude.{AreMarked, IsMarked, IsLeft, HasMailed, IsPosted}
 use Rattle.acts.specs.Mailed as mailed_acts
-use Rattle.acts.specs.Mailed.{HasMailed, IsPosted}
-use Rattle.acts.proofs.Left.{left_copies, left_counts, left_lawful, left_mailed, left_marked as left_marked_after, left_marks, left_scan}
+use Rattle.acts.proofs.Left.{left_copies, left_counts, left_lawful, left_mailed, left_marked, left_marks, left_scan}
 use Rattle.sequencer.specs.Drive as own
-use Rattle.sequencer.specs.Seats.{Seat}
-use Rattle.protocol_runs.specs.IsSetting.{IsSetting}
-use Rattle.protocol_runs.specs.Kept.{FitsRun, SuitsReceiver}
-use Rattle.protocol_runs.specs.Machines.{actor_of, setup_of}
-use Rattle.protocol_runs.specs.Meaning.{IsMeaning, IsScanOf, Meaning, acts_told}
-use Rattle.protocol_runs.specs.Rules.{mailed, rules, scan_by, scan_of}
-use Rattle.protocol_runs.specs.Setting.{Setting}
+use Rattle.sequencer.specs.Prelude.{Seat}
 use Rattle.protocol_runs.proofs.Controllers.{IsOne, below-count, controller-is, lawful-machine, one-by, one-of, setup-is, some-and, and-some}
 
 pub maps-join : {X Y Z : Type 0} (f : Y → Z) (g : X → Y) (xs : List X) → map f (map g xs) ≡ map (λ x. f (g x)) xs
@@ -121,7 +104,7 @@ module _ {D : Type 0} (p : Meaning) (drive : D → List Seat → ℕ → own.Dri
       pub left-marked : AreMarked now w.ctl.mail.marks w.ctl.mail.inbox
       left-marked =
           let begins : IsMarked V = record { arrivals = fit.marked; next = λ again. absurd (cc again) } in
-          let after = left_marked_after V w left begins in
+          let after = left_marked V w left begins in
           subst (λ (n : ℕ). AreMarked n w.ctl.mail.marks w.ctl.mail.inbox) same.now after.arrivals
 
       pub left-few : x.fired < s.limit → (with_one_fired w.ctl).fired ≤ s.limit

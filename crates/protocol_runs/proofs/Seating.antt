@@ -6,15 +6,11 @@ use Rattle.std.proofs.lemmas.List.Sums.{fold-append}
 use Rattle.std.proofs.lemmas.Option.{get_or_from_slice_get, slice_get-map, slice_get_within}
 use Rattle.std.specs.List.{AllPairs, flat_map}
 use Rattle.std.specs.Option.{option_and_then, option_map}
-use Rattle.ruby_value.specs.Requests.{Requests, with_request, without_first_answer}
-use Rattle.ctl_face.specs.Between.{DriverAct, Issues, Takes, after_driver_act, after_driver_acts}
-use Rattle.ctl_face.specs.Ctl.{Ctl}
+use Rattle.ruby_value.specs.Prelude.{Requests, with_request, without_first_answer}
+use Rattle.ctl_face.specs.Prelude.{DriverAct, Issues, Takes, after_driver_act, after_driver_acts, Ctl}
 use Rattle.sequencer.specs.declared.issued.Issued.{Issued}
-use Rattle.sequencer.specs.Drive.{Drive, Taken, after_drive, after_issuing, after_taking}
-use Rattle.sequencer.specs.Seats.{Seat, Seating, changed_at, changed_seat, with_issued, with_seat, without_answer_at}
-use Rattle.protocol_runs.specs.IsSetting.{AreApart}
-use Rattle.protocol_runs.specs.Setting.{SeatSetup}
-use Rattle.protocol_runs.specs.Turn.{is_seat_of, issued_at, seat_in, seat_with, seats_in, served, taken_at}
+use Rattle.sequencer.specs.Prelude.{Drive, Taken, after_drive, after_issuing, after_taking, Seat, Seating, changed_at, changed_seat, with_issued, with_seat, without_answer_at}
+use Rattle.protocol_runs.specs.Prelude.{AreApart, SeatSetup, is_seat_of, issued_at, seat_in, seat_with, seats_in, served, taken_at}
 
 -- a list in which one element is another
 set-here : {X : Type 0} (xs : List X) (k : ℕ) (x y : X) → slice_get xs k ≡ Some x → slice_get (slice_set xs k y) k ≡ Some y

@@ -8,12 +8,7 @@ use Rattle.run_journal.specs.declared.event.Event.{Event}
 use Rattle.run_journal.specs.declared.event.Event.TheVariants.{Take, Fire, Done, Release, Turn}
 use Rattle.run_journal.specs.declared.entry.End.{End}
 use Rattle.run_journal.specs.declared.verdict.Verdict.{Verdict}
-use Rattle.protocol_runs.specs.RunRules.{Rules, Outcome, Full, Fired, Stop, Idle}
-use Rattle.protocol_runs.specs.World.{Place, World, is_free}
-use Rattle.protocol_runs.specs.Verdict.{least_stopped}
-use Rattle.protocol_runs.specs.Step.{Stepped, Moved, is_holder, held_by, held_by_nobody, take, fired_by, fire, ended_by, done, given_back, release, with_moved, moved, at_place, is_busy, turn_by, step_lawfully, step}
-use Rattle.protocol_runs.specs.WakesOnce.{is_turn}
-use Rattle.protocol_runs.specs.Change.{Ends, Idled, Filled, Halted, Move, Taken, FiredBy, EndedBy, Released, IsIdle, Change, Moves, Closes, Turns}
+use Rattle.protocol_runs.specs.Prelude.{Rules, Outcome, Full, Fired, Stop, Idle, Place, World, is_free, least_stopped, Stepped, Moved, is_holder, held_by, held_by_nobody, take, fired_by, fire, ended_by, done, given_back, release, with_moved, moved, at_place, is_busy, turn_by, step_lawfully, step, is_turn, Ends, Idled, Filled, Halted, Move, Taken, FiredBy, EndedBy, Released, IsIdle, Change, Moves, Closes, Turns}
 
 pub holder-is : (worker : ℕ) (holder : Option ℕ) → is_holder worker holder ≡ true → holder ≡ Some worker
 holder-is worker None is = absurd (cc is)

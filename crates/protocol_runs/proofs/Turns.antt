@@ -15,31 +15,16 @@ use Rattle.ruby_value.specs.declared.message.Message.{Message}
 use Rattle.ruby_value.specs.declared.message.MsgNo.{MsgNo}
 use Rattle.ruby_value.specs.declared.setup.BufferSetup.{BufferSetup}
 use Rattle.ruby_value.specs.declared.setup.MachineSetup.{MachineSetup}
-use Rattle.ruby_value.specs.HasKinds.{has_kinds}
-use Rattle.ruby_value.specs.NumbersFrom.{numbers_from}
+use Rattle.ruby_value.specs.Prelude.{has_kinds, numbers_from, FitsRequests, IsRequest, Requests, with_request, without_first_answer}
 use Rattle.ruby_value.proofs.Ordered.{AllPairs-head, AllPairs-nil, AllPairs-tail}
 use Rattle.protocol_runs.specs.Premises as runs
-use Rattle.protocol_runs.specs.RunRules.{Rules}
-use Rattle.protocol_runs.specs.Step.{delivery_numbers}
-use Rattle.ctl_face.specs.Between.{DriverAct, IsDriverAct, Issues, Takes, after_driver_act, after_driver_acts}
-use Rattle.ctl_face.specs.Ctl.{Ctl, Mail}
-use Rattle.acts.specs.Kept.{AreMarked}
-use Rattle.ctl_face.specs.Fits.{FitsSequencer}
-use Rattle.ctl_face.specs.OfMachine.{TakesFields}
+use Rattle.protocol_runs.specs.Prelude.{Rules, delivery_numbers, AreApart, HasQueue, IsSetting, TakesRequests, FitsRun, HasSeats, SuitsReceiver, setup_of, Meaning, request_at, request_fields, request_kinds, request_message, request_messages, rules, SeatSetup, Setting, acts_at, is_seat_of, issued_at, seat_in, seats_in, served, taken_at}
+use Rattle.ctl_face.specs.Prelude.{DriverAct, IsDriverAct, Issues, Takes, after_driver_act, after_driver_acts, Ctl, Mail, FitsSequencer, TakesFields}
+use Rattle.acts.specs.Prelude.{AreMarked}
 use Rattle.ctl_face.proofs.Betweens.{driver_keeps, driver_mail}
 use Rattle.sequencer.specs.declared.issued.Issued.{Issued}
-use Rattle.sequencer.specs.Drive.{CanIssue, Drive, IsLawful, Taken, after_taking, seats_after_taking}
-use Rattle.ruby_value.specs.Requests.{FitsRequests, IsRequest, Requests, with_request, without_first_answer}
+use Rattle.sequencer.specs.Prelude.{CanIssue, Drive, IsLawful, Taken, after_taking, seats_after_taking, FitSeats, FitsSeat, Seat, Seating, changed_at, changed_seat, with_issued, with_seat, without_answer_at}
 use Rattle.sequencer.specs.Seats as seats
-use Rattle.sequencer.specs.Seats.{FitSeats, FitsSeat, Seat, Seating, changed_at, changed_seat, with_issued, with_seat, without_answer_at}
-use Rattle.protocol_runs.specs.IsSetting.{AreApart, HasQueue, IsSetting, TakesRequests}
-use Rattle.protocol_runs.specs.Kept.{FitsRun, HasSeats, SuitsReceiver}
-use Rattle.protocol_runs.specs.Machines.{setup_of}
-use Rattle.protocol_runs.specs.Meaning.{Meaning}
-use Rattle.protocol_runs.specs.Requests.{request_at, request_fields, request_kinds, request_message, request_messages}
-use Rattle.protocol_runs.specs.Rules.{rules}
-use Rattle.protocol_runs.specs.Setting.{SeatSetup, Setting}
-use Rattle.protocol_runs.specs.Turn.{acts_at, is_seat_of, issued_at, seat_in, seats_in, served, taken_at}
 use Rattle.protocol_runs.proofs.Controllers.{and-some, at-place, below-count, of-one, one-of, some-and}
 use Rattle.protocol_runs.proofs.Driver.{IsDriver}
 use Rattle.protocol_runs.proofs.Scans.{fits-run, fitting}

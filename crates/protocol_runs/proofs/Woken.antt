@@ -9,16 +9,9 @@ use Rattle.std.proofs.lemmas.Option.{same_Some}
 use Rattle.run_journal.specs.declared.entry.Entry.{Entry}
 use Rattle.run_journal.specs.declared.event.Event.{Event}
 use Rattle.run_journal.specs.declared.event.Event.TheVariants.{Turn}
-use Rattle.protocol_runs.specs.RunRules.{Rules}
-use Rattle.protocol_runs.specs.World.{Place, World, must_wake, is_due, is_held, opening, opening_place}
-use Rattle.protocol_runs.specs.Step.{Stepped, Moved, with_moved, begun_place, is_busy}
-use Rattle.protocol_runs.specs.Run.{Ran, IsRun, start}
-use Rattle.protocol_runs.specs.WakesOnce.{is_turn, is_done_of, ends_with_turn, wakes_at, WakesOnce}
-use Rattle.protocol_runs.specs.Change.{Move, Taken, FiredBy, EndedBy, Released, IsIdle, Change, Moves, Closes, Turns}
-use Rattle.protocol_runs.specs.Outcome.{driven_world, IsOutcome, StopsAt, EndsWith, ContinuesAt}
+use Rattle.protocol_runs.specs.Prelude.{Rules, Place, World, must_wake, is_due, is_held, opening, opening_place, Stepped, Moved, with_moved, begun_place, is_busy, Ran, IsRun, start, is_turn, is_done_of, ends_with_turn, wakes_at, WakesOnce, Move, Taken, FiredBy, EndedBy, Released, IsIdle, Change, Moves, Closes, Turns, driven_world, IsOutcome, StopsAt, EndsWith, ContinuesAt, IsSound}
 use Rattle.protocol_runs.proofs.Outcomes.{change-outcome}
 use Rattle.protocol_runs.proofs.Steps.{move-quiet}
-use Rattle.protocol_runs.specs.Premises.{IsSound}
 use Rattle.protocol_runs.proofs.Runs.{Path, with_step, headed, run-path, rest-path}
 use Rattle.protocol_runs.proofs.Places.{mapped-from, paired-back, set-at, AreLater, IsLater}
 use Rattle.protocol_runs.proofs.Tallies.{one}

@@ -9,7 +9,7 @@ use Rattle.run_journal.specs.declared.entry.Entry.{Entry}
 use Rattle.run_journal.specs.declared.entry.Entry.TheVariants.{Fired, Ended, Turned}
 use Rattle.ruby_value.specs.declared.message.Sent.{Sent}
 use Rattle.run_journal.specs.declared.summary.Account.{Account}
-use Rattle.ruby_value.specs.NumberBefore.{same_number}
+use Rattle.ruby_value.specs.Prelude.{same_number}
 use Rattle.protocol_runs.specs.RunRules.{Rules, Mailed}
 use Rattle.protocol_runs.specs.World.{Place, World}
 use Rattle.protocol_runs.specs.Verdict.{held_mail}

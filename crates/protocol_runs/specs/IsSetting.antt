@@ -7,9 +7,7 @@ use Rattle.std.specs.List.{All, AllPairs}
 use Rattle.ruby_value.specs.declared.setup.BufferPlace.TheVariants as place
 use Rattle.ruby_value.specs.declared.setup.BufferSetup.{BufferSetup}
 use Rattle.ruby_value.specs.declared.setup.MachineSetup.{MachineSetup}
-use Rattle.ctl_face.specs.Fits.{last_cycle}
-use Rattle.ctl_face.specs.IsMachine.{IsMachine}
-use Rattle.ctl_face.specs.RoutesFit.{RoutesFit}
+use Rattle.ctl_face.specs.Prelude.{last_cycle, IsMachine, RoutesFit}
 use Rattle.protocol_runs.specs.Machines.{setup_of}
 use Rattle.protocol_runs.specs.Requests.{request_kinds}
 use Rattle.protocol_runs.specs.Setting.{SeatSetup, Setting}

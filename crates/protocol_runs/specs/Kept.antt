@@ -6,10 +6,8 @@
 use Rattle.std.specs.Prelude.{◌≡◌, ◌<◌, ◌≤◌, ℕ, false, IsSomeAnd, length}
 use Rattle.ruby_value.specs.declared.message.Message.{Message}
 use Rattle.ruby_value.specs.declared.setup.MachineSetup.{MachineSetup}
-use Rattle.ctl_face.specs.Ctl.{Ctl}
-use Rattle.ctl_face.specs.Fits.{Fits}
-use Rattle.ctl_face.specs.OfMachine.{TakesFields}
-use Rattle.acts.specs.Kept.{AreMarked}
+use Rattle.ctl_face.specs.Prelude.{Ctl, Fits, TakesFields}
+use Rattle.acts.specs.Prelude.{AreMarked}
 use Rattle.protocol_runs.specs.Machines.{setup_of}
 use Rattle.protocol_runs.specs.Setting.{Setting}
 

@@ -22,3 +22,4 @@ pub mod Step
 pub mod Verdict
 pub mod WakesOnce
 pub mod World
+pub mod Prelude

@@ -3,7 +3,7 @@
 use Rattle.std.specs.Prelude.{ℕ, Bool, Option, List, ◌+◌, ◌&&◌, nat_le, nat_lt, position, slice_get}
 use Rattle.std.specs.Option.{option_and_then}
 use Rattle.ruby_value.specs.declared.setup.MachineSetup.{MachineSetup}
-use Rattle.ctl_face.specs.LocalView.{Actor}
+use Rattle.ctl_face.specs.Prelude.{Actor}
 use Rattle.protocol_runs.specs.Setting.{Setting}
 
 -- of a range, by the first number and how many there are

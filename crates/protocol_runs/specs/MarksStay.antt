@@ -1,7 +1,7 @@
 -- No mark is lost before its cycle: in the world after an event each controller has each mark that it had for a later cycle, unless
 -- the run has gone on past that cycle. This rule is this project's own.
 use Rattle.std.specs.Prelude.{ℕ, ◌<◌, ◌≤◌, Bool, false, Option, None, Some, IsTrue, slice_get}
-use Rattle.ruby_value.specs.Ascending.{has_mark}
+use Rattle.ruby_value.specs.Prelude.{has_mark}
 use Rattle.protocol_runs.specs.RunRules.{Rules}
 use Rattle.protocol_runs.specs.World.{Place, World}
 

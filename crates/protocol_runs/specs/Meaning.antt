@@ -15,11 +15,8 @@ use Rattle.run_journal.specs.declared.entry.StopAt.{StopAt}
 use Rattle.protocol_runs.specs.InvalidExactly.{invalid_at}
 use Rattle.protocol_runs.specs.RunRules.{Acts, Fired, Idle, Scan, Stop, Tried}
 use Rattle.ctl_face.specs.Acts as face
-use Rattle.ctl_face.specs.Between.{with_wake_up}
-use Rattle.ctl_face.specs.Ctl.{Ctl}
-use Rattle.ctl_face.specs.LocalView.{Actor, LocalView}
-use Rattle.ctl_face.specs.ScanView.{scan_view}
-use Rattle.acts.specs.Left.{IsLeft}
+use Rattle.ctl_face.specs.Prelude.{with_wake_up, Ctl, Actor, LocalView, scan_view}
+use Rattle.acts.specs.Prelude.{IsLeft}
 
 pub record Meaning : Type 0 where
   pub scan : (machine : ℕ) → LocalView → (limit : ℕ) → Scan Ctl Message

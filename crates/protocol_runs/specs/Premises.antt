@@ -3,10 +3,9 @@
 -- `Leads d issued now` what holds of the driver d that has issued n requests as it comes to act at that cycle. All three are
 -- the instance's own.
 use Rattle.std.specs.Prelude.{◌≡◌, ◌<◌, ◌≤◌, ◌+◌, ◌==◌, ◌||◌, ℕ, Bool, Some, List, [], ◌∷◌, map, length, All, count_by, slice_get, IsTrue}
-use Rattle.ruby_value.specs.Ascending.{has_mark}
+use Rattle.ruby_value.specs.Prelude.{has_mark, numbers_from}
 use Rattle.ruby_value.specs.declared.fault.Fault.TheVariants.{Invalid}
 use Rattle.ruby_value.specs.declared.message.MsgNo.{MsgNo}
-use Rattle.ruby_value.specs.NumbersFrom.{numbers_from}
 use Rattle.run_journal.specs.declared.entry.FireNote.{FireNote}
 use Rattle.ruby_value.specs.declared.message.Sent.{Sent}
 use Rattle.run_journal.specs.declared.entry.StopAt.{StopAt}

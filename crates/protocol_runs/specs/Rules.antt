@@ -5,12 +5,9 @@ use Rattle.std.specs.Prelude.{â„•, Bool, false, Option, None, Some, List, [], â—
 use Rattle.ruby_value.specs.declared.message.Message.{Message}
 use Rattle.ruby_value.specs.declared.setup.MachineSetup.{MachineSetup}
 use Rattle.protocol_runs.specs.RunRules.{DriverTurn, Idle, Mailed, Rules, Scan}
-use Rattle.ctl_face.specs.Between.{at_cycle, with_message, with_one_fired, with_stop, with_wake_up}
-use Rattle.ctl_face.specs.Ctl.{Ctl, InboxMessage}
-use Rattle.ctl_face.specs.Opening.{opening_ctl}
-use Rattle.ctl_face.specs.ScanView.{scan_view}
-use Rattle.sequencer.specs.Drive.{Drive}
-use Rattle.sequencer.specs.Seats.{Seat}
+use Rattle.ctl_face.specs.Between.{with_message}
+use Rattle.ctl_face.specs.Prelude.{at_cycle, with_one_fired, with_stop, with_wake_up, Ctl, InboxMessage, opening_ctl, scan_view}
+use Rattle.sequencer.specs.Prelude.{Drive, Seat}
 use Rattle.protocol_runs.specs.Machines.{actor_of, machine_of}
 use Rattle.protocol_runs.specs.Meaning.{Meaning}
 use Rattle.protocol_runs.specs.Requests.{request_messages}

@@ -18,14 +18,10 @@ use Rattle.protocol_runs.specs.Account.{consumed_numbers}
 use Rattle.protocol_runs.specs.RunRules.{Fired, Full, Idle, Outcome, Rules, Stop}
 use Rattle.protocol_runs.specs.Run.{IsRun}
 use Rattle.protocol_runs.specs.World.{World}
-use Rattle.ctl_face.specs.Ctl.{Ctl}
+use Rattle.ctl_face.specs.Prelude.{Ctl, network_count, LocalView}
 use Rattle.ctl_face.specs.declared.routes.Routes.{Routes}
-use Rattle.ctl_face.specs.IsMachine.{network_count}
-use Rattle.ctl_face.specs.LocalView.{LocalView}
-use Rattle.acts.specs.Act.{Pop, Ready, Send}
-use Rattle.acts.specs.Acting.{Acting, ends, ◌>>=◌, ◌>>◌, act, either, run}
-use Rattle.acts.specs.Done.{Done}
-use Rattle.sequencer.specs.PlainDriver.{plain_drive}
+use Rattle.acts.specs.Prelude.{Pop, Ready, Send, Acting, ends, ◌>>=◌, ◌>>◌, act, either, run, Done}
+use Rattle.sequencer.specs.Prelude.{plain_drive}
 use Rattle.protocol_runs.specs.Meaning.{Meaning, acts_told}
 use Rattle.protocol_runs.specs.Requests.{request_kinds}
 use Rattle.protocol_runs.specs.Rules.{rules}

@@ -5,11 +5,9 @@
 use Rattle.std.specs.Prelude.{ℕ, Bool, false, ◌==◌, ◌&&◌, Option, None, Some, List, [], ◌∷◌, ◌++◌, map, slice_get, if◌then◌else◌}
 use Rattle.std.specs.List.{flat_map}
 use Rattle.std.specs.Option.{option_and_then}
-use Rattle.ctl_face.specs.Between.{DriverAct, Issues, Takes, after_driver_acts}
-use Rattle.ctl_face.specs.Ctl.{Ctl}
+use Rattle.ctl_face.specs.Prelude.{DriverAct, Issues, Takes, after_driver_acts, Ctl}
 use Rattle.sequencer.specs.declared.issued.Issued.{Issued}
-use Rattle.sequencer.specs.Drive.{Drive, Taken}
-use Rattle.sequencer.specs.Seats.{Seat}
+use Rattle.sequencer.specs.Prelude.{Drive, Taken, Seat}
 use Rattle.protocol_runs.specs.Setting.{SeatSetup}
 
 -- a seat with this controller

@@ -3,7 +3,7 @@
 -- and holders is this project's own.
 use Rattle.std.specs.Prelude.{ℕ, Bool, false, Option, None, List, map, ◌&&◌, not, is_some, is_none}
 use Rattle.run_journal.specs.declared.verdict.Verdict.{Verdict}
-use Rattle.ruby_value.specs.Ascending.{has_mark}
+use Rattle.ruby_value.specs.Prelude.{has_mark}
 use Rattle.protocol_runs.specs.RunRules.{Rules}
 
 -- a controller in a world: whether its wake-up of this cycle has ended, and which worker holds it

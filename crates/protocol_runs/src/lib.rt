@@ -4,13 +4,12 @@
 #![tactic(auto)]
 
 mod laws;
-mod run_laws;
 mod sample_run;
 
-pub use laws::{machines_of_controllers_are_found, turns_serve_their_seats};
-pub use run_laws::{
-    accounts_for_each_message, controllers_fit, invalid_comes_exactly, no_mark_is_lost,
-    numbers_are_fresh, one_worker_makes_one_run, protocols_meet_the_premises, seats_fit_the_driver,
-    turns_end_or_go_on, wakes_once,
+pub use laws::{
+    accounts_for_each_message, controllers_fit, invalid_comes_exactly,
+    machines_of_controllers_are_found, no_mark_is_lost, numbers_are_fresh,
+    one_worker_makes_one_run, protocols_meet_the_premises, seats_fit_the_driver,
+    turns_end_or_go_on, turns_serve_their_seats, wakes_once,
 };
 pub use sample_run::a_sample_meets_the_premises;

@@ -5,8 +5,7 @@ use Rattle.std.proofs.lemmas.List.{map-append}
 use Rattle.std.proofs.lemmas.Grind.{common_steps}
 use Rattle.slicc_ast.specs.declared.tree.item.Tree.{Tree}
 use Rattle.slicc_ast.specs.declared.tree.machine.Machine.{Machine}
-use Rattle.slicc_plan.specs.SymbolsOf.{machines_from}
-use Rattle.slicc_plan.specs.SymbolsOfMachines.{machine_symbols, numbered_from}
+use Rattle.slicc_plan.specs.Prelude.{machines_from, machine_symbols, numbered_from}
 
 numbered_more : {X Y : Type 0} (f : ℕ → X → List Y) (n : ℕ) (xs : List X) (x : X) → numbered_from f n (xs ++ x ∷ []) ≡ numbered_from f n xs ++ f (n + length xs) x
 numbered_more f n [] x = append-nil (f n x) ∙ ap (λ k. f k x) (sym (add-zero n))

@@ -2,7 +2,7 @@
 use Rattle.std.specs.Prelude.{Option}
 use Rattle.slicc_ast.specs.declared.tree.declaration.Structure.{Structure}
 use Rattle.slicc_ast.specs.declared.tree.machine.Machine.{Machine}
-use Rattle.slicc_plan.specs.Machines.{directory_structure, entry_structure, tbe_structure}
+use Rattle.slicc_plan.specs.Prelude.{directory_structure, entry_structure, tbe_structure}
 use Rattle.declared_types.specs.declared.lines.LineSort.{LineSort}
 use Rattle.declared_types.specs.declared.lines.LineSort.TheVariants.{Directory, Entry, Tbe}
 

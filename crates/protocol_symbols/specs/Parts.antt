@@ -6,13 +6,8 @@ use Rattle.slicc_ast.specs.declared.tree.item.Tree.{Tree}
 use Rattle.slicc_ast.specs.declared.tree.machine.Decl.{Decl}
 use Rattle.slicc_ast.specs.declared.tree.machine.Literal.{Literal}
 use Rattle.slicc_ast.specs.declared.tree.machine.Machine.{Machine}
-use Rattle.slicc_plan.specs.Declarations.{Declaration, machine_declarations, within}
-use Rattle.slicc_plan.specs.Limits.{is_events, is_states}
-use Rattle.slicc_plan.specs.MachineValues.{reference_in, reference_of_type, value_in, value_of_type}
-use Rattle.slicc_plan.specs.Machines.{directory_structure, entry_structure, tbe_structure, written_of}
-use Rattle.slicc_plan.specs.SymbolsOfMachines.{action_symbol, buffer_symbol, function_symbol, in_port_symbol, line_number, number_of_found, numbered_from, out_port_symbol, permissions_found, table_of_sort, table_symbol, transition_symbol}
-use Rattle.slicc_plan.specs.Tables.{table_sort}
-use Rattle.slicc_plan.specs.Types.{type_in}
+use Rattle.slicc_plan.specs.Prelude.{Declaration, machine_declarations, within, is_events, is_states, reference_in, reference_of_type, value_in, directory_structure, entry_structure, tbe_structure, written_of, action_symbol, buffer_symbol, function_symbol, in_port_symbol, line_number, number_of_found, numbered_from, out_port_symbol, permissions_found, table_of_sort, table_symbol, transition_symbol, table_sort, type_in}
+use Rattle.slicc_plan.specs.MachineValues.{value_of_type}
 use Rattle.protocol_symbols.specs.declared.bodies.Bodies.{Bodies}
 use Rattle.protocol_symbols.specs.declared.machine.Numbers.{Numbers}
 use Rattle.protocol_symbols.specs.declared.objects.Objects.{Objects}

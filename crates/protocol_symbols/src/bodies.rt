@@ -1,13 +1,12 @@
 //! What a machine declares between its braces that has a body, and its ports.
 ghost use Rattle.std.specs.Prelude.{◌≡◌, ◌++◌, [], ◌∷◌, OnOk};
-ghost use Rattle.slicc_plan.specs.Declarations.{machine_declarations};
-ghost use Rattle.declared_types.specs.Lent.{declarations_of};
+ghost use Rattle.slicc_plan.specs.Prelude.{machine_declarations, port_on_buffer};
+ghost use Rattle.declared_types.specs.Prelude.{declarations_of};
 ghost use Rattle.protocol_symbols.specs.Parts.{AddBodies, AddBody, no_bodies};
-ghost use Rattle.type_numbers.specs.Numbered.{AreNumbered, trees_of};
+ghost use Rattle.type_numbers.specs.Prelude.{AreNumbered, trees_of};
 
 use crate::functions::add_function;
 use crate::names::in_32_bits;
-use crate::ports::add_on_buffer;
 use declared_types::Declared;
 use ruby_base::{NoMemory, Seq, Text};
 use ruby_symbols::{ActionSymbol, BufferSymbol, FunctionSymbol, PortSymbol, buffer_among};
@@ -116,4 +115,25 @@ pub fn add_bodies<'a>(
         add_body(alloc, bodies, types, m, declarations, buffers, number, d)?;
     }
     Ok(())
+}
+
+/// Adds a port of this name and number, where it is on a buffer.
+pub fn add_on_buffer(
+    alloc: Global,
+    list: &mut Seq<PortSymbol>,
+    name: &[u8],
+    number: usize,
+    buffer: Option<u16>,
+) -> Result<(), NoMemory>
+    ensures { OnOk result (list.new ≡ list.old ++ port_on_buffer name.now number buffer) }
+{
+    let Some(buffer) = buffer else {
+        return Ok(());
+    };
+    let declaration = in_32_bits(number)?;
+    list.push(PortSymbol {
+        name: Text::copied(alloc, name)?,
+        buffer,
+        declaration,
+    })
 }

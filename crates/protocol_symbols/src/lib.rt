@@ -2,22 +2,15 @@
 #![tactic(auto)]
 
 mod bodies;
-mod buffers;
-mod enumerations;
-mod formals;
 mod functions;
 mod lines;
 mod machine;
 mod names;
 mod objects;
-mod ports;
 mod protocol;
-mod references;
-mod sequencers;
 mod states;
-mod structures;
 mod tables;
-mod transitions;
+mod types;
 mod values;
 
 pub use protocol::protocol_symbols;

@@ -1,14 +1,10 @@
 //! The structures of a machine's lines, and references to lines.
 ghost use Rattle.std.specs.Prelude.{◌≡◌, option_and_then};
 ghost use Rattle.std.specs.Option.{option_copied, option_map};
-ghost use Rattle.slicc_plan.specs.Declarations.{machine_declarations, within};
-ghost use Rattle.slicc_plan.specs.MachineValues.{line_kind};
-ghost use Rattle.slicc_plan.specs.SymbolsOfMachines.{line_number};
-ghost use Rattle.slicc_plan.specs.TypeNumbers.{is_its, reference_kind, value_kind};
-ghost use Rattle.slicc_plan.specs.Types.{structured};
-ghost use Rattle.declared_types.specs.Lent.{declarations_of, scope_of, type_of};
-ghost use Rattle.protocol_symbols.specs.Lines.{line_of};
-ghost use Rattle.type_numbers.specs.Numbered.{AreNumbered, trees_of};
+ghost use Rattle.slicc_plan.specs.Prelude.{machine_declarations, within, line_kind, line_number, is_its, reference_kind, value_kind, structured};
+ghost use Rattle.declared_types.specs.Prelude.{declarations_of, scope_of, type_of};
+ghost use Rattle.protocol_symbols.specs.Prelude.{line_of};
+ghost use Rattle.type_numbers.specs.Prelude.{AreNumbered, trees_of};
 
 use body_types::same_type;
 use declared_types::{Declared, KnownType, LineSort, Scope, first_line};

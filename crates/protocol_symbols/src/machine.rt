@@ -1,28 +1,25 @@
 //! A machine of a protocol as symbols.
 ghost use Rattle.std.specs.Prelude.{◌≡◌, ℕ, IfOk, List, OnOk, map};
-ghost use Rattle.slicc_ast.specs.declared.tree.item.Tree.{Tree as TreeRecord};
-ghost use Rattle.slicc_ast.specs.declared.tree.machine.Machine.{Machine as MachineRecord};
-ghost use Rattle.slicc_plan.specs.Declarations.{machine_declarations};
-ghost use Rattle.slicc_plan.specs.Networks.{all_ports};
-ghost use Rattle.slicc_plan.specs.SymbolsOfMachines.{machine_symbols, sequencer_name};
-ghost use Rattle.declared_types.specs.Lent.{declarations_of};
-ghost use Rattle.type_numbers.specs.Ports.{port_seen};
+ghost use Rattle.slicc_ast.specs.declared.tree.item.Tree.{Tree};
+ghost use Rattle.slicc_ast.specs.declared.tree.machine.Machine.{Machine};
+ghost use Rattle.slicc_plan.specs.Prelude.{machine_declarations, all_ports, machine_symbols, sequencer_name};
+ghost use Rattle.declared_types.specs.Prelude.{declarations_of};
+ghost use Rattle.machine_table.specs.Prelude.{port_seen};
+ghost use Rattle.type_numbers.specs.Prelude.{AreNumbered, trees_of};
 ghost use Rattle.protocol_symbols.specs.Parts.{AddBodies, AddObjects, AddRest, AreNumbers, no_bodies, no_objects, no_rest};
-ghost use Rattle.type_numbers.specs.Numbered.{AreNumbered, trees_of};
 
 use crate::bodies::{Bodies, add_bodies};
 use crate::lines::{line_number, line_structure};
 use crate::objects::{Objects, add_objects};
-use crate::sequencers::sequencer;
-use crate::states::{add_permissions, events_number, states_number};
-use crate::transitions::add_transitions;
+use crate::states::{add_permissions, add_transitions, events_number, states_number};
+use crate::tables::sequencer;
 use declared_types::{Declared, LineSort, machine_list};
-use machine_table::{events, states};
+use machine_table::{PortOn, events, states};
 use ruby_base::{NoMemory, Seq, Text};
 use ruby_symbols::{MachineSymbols, TransitionSymbol, action_among, function_among};
 use slicc_ast::tree::Machine;
 use std::alloc::Global;
-use type_numbers::{PortOn, TypeNumbers};
+use type_numbers::TypeNumbers;
 
 // The numbers of a machine's types.
 #[derive(Clone, Copy)]
@@ -129,7 +126,7 @@ fn together(
     bodies: Bodies,
     rest: Rest,
 ) -> MachineSymbols
-    ensures { (trees : List TreeRecord) (number : ℕ) (m : MachineRecord) → AreNumbers trees m numbers
+    ensures { (trees : List Tree) (number : ℕ) (m : Machine) → AreNumbers trees m numbers
         → sequencer ≡ sequencer_name trees m → AddObjects trees number m (machine_declarations m) no_objects objects
         → AddBodies trees m objects.buffers m.declarations no_bodies bodies → AddRest m no_rest rest
         → result ≡ machine_symbols trees number m }

@@ -2,9 +2,9 @@
 ghost use Rattle.std.specs.Prelude.{◌≡◌, ◌++◌, IfOk, OnOk, map, position};
 ghost use Rattle.std.specs.Str.{bytes_eq};
 
+use declared_types::Named;
 use ruby_base::{NoMemory, Seq, Text};
 use std::alloc::Global;
-use type_numbers::Named;
 
 /// The place of the first of this name.
 pub fn place_named<T: Named>(members: &[T], name: &[u8]) -> Option<usize>

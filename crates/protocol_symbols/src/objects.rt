@@ -1,23 +1,23 @@
-//! The parameters and objects of a machine.
-ghost use Rattle.std.specs.Prelude.{◌≡◌, OnOk, map};
-ghost use Rattle.std.specs.Option.{option_copied};
-ghost use Rattle.slicc_plan.specs.Declarations.{machine_declarations};
-ghost use Rattle.slicc_plan.specs.Networks.{all_ports};
-ghost use Rattle.declared_types.specs.Lent.{declaration_of, declarations_of};
-ghost use Rattle.type_numbers.specs.Ports.{port_seen};
+//! The parameters and objects of a machine: its buffers, what has references as its values, and all together.
+ghost use Rattle.std.specs.Prelude.{◌≡◌, OnOk, map, ◌++◌, ◌∷◌, [], IfOk, Some, option_and_then};
+ghost use Rattle.std.specs.Option.{option_copied, option_map};
+ghost use Rattle.slicc_plan.specs.Prelude.{machine_declarations, all_ports, reference_of_type, attributes_of, buffer_of_place, buffer_symbol, structure_number};
+ghost use Rattle.declared_types.specs.Prelude.{declaration_of, declarations_of, type_of};
+ghost use Rattle.machine_table.specs.Prelude.{port_seen, buffer_seen};
+ghost use Rattle.type_numbers.specs.Prelude.{AreNumbered, trees_of};
 ghost use Rattle.protocol_symbols.specs.Parts.{AddNamed, AddObject, AddObjects, no_objects};
-ghost use Rattle.type_numbers.specs.Numbered.{AreNumbered, trees_of};
 
-use crate::buffers::add_buffer;
-use crate::references::add_reference;
+use crate::lines::line_kind;
 use crate::tables::add_table;
+use crate::types::add_default_field;
 use crate::values::add_value;
-use declared_types::{Declared, Scope};
-use ruby_base::{NoMemory, Seq};
+use declared_types::{Declared, KnownType, Scope, type_in};
+use machine_table::{BufferIn, PortOn, buffer_in};
+use ruby_base::{NoMemory, Seq, Text};
 use ruby_symbols::{BufferSymbol, FieldSymbol, TableSymbol};
 use slicc_ast::tree::{Literal, Machine, Pairs, TypeName};
 use std::alloc::Global;
-use type_numbers::{PortOn, TypeNumbers, type_in};
+use type_numbers::{TypeNumbers, buffer_place, is_ordered, message_type, type_number};
 
 /// The parameters and objects of a machine, by what they are.
 #[derive(Drop)]
@@ -150,4 +150,78 @@ pub fn add_objects<'a>(
         add_object(alloc, objects, types, ports, number, m, declarations, *d)?;
     }
     Ok(())
+}
+
+/// Adds a parameter or an object of this name and type, if its values are references to lines of a machine that declares this.
+pub fn add_reference<'a>(
+    alloc: Global,
+    list: &mut Seq<FieldSymbol>,
+    types: &TypeNumbers<'a>,
+    m: &'a Machine,
+    declarations: &[Declared<'a>],
+    name: &[u8],
+    t: Option<KnownType<'a>>,
+) -> Result<(), NoMemory>
+    requires types { AreNumbered types.now }
+    requires declarations { declarations_of declarations.now ≡ machine_declarations m.now }
+    ensures { OnOk result (list.new ≡ list.old ++ reference_of_type (trees_of types.now) m.now name.now (option_map type_of t.entry)) }
+{
+    match line_kind(types, m, declarations, t) {
+        None => Ok(()),
+        Some(kind) => add_default_field(alloc, list, name, kind),
+    }
+}
+
+fn message_number<'a>(types: &TypeNumbers<'a>, t: Option<KnownType<'a>>) -> Option<u16>
+    requires { AreNumbered types.now }
+    ensures { result ≡ option_and_then (structure_number (trees_of types.now)) (option_map type_of t.entry) }
+{
+    match t {
+        None => None,
+        Some(t) => type_number(types, t),
+    }
+}
+
+fn buffer_of_place<'a>(
+    alloc: Global,
+    types: &TypeNumbers<'a>,
+    ports: &[PortOn<'a>],
+    number: u16,
+    d: Declared<'a>,
+    b: BufferIn<'a>,
+) -> Result<BufferSymbol, NoMemory>
+    requires types { AreNumbered types.now }
+    requires ports { map port_seen ports.now ≡ all_ports (trees_of types.now) }
+    ensures { IfOk result (λ s. s ∷ [] ≡ buffer_of_place (trees_of types.now) number (attributes_of (declaration_of d.entry)) (Some (buffer_seen b.entry))) }
+{
+    let t = message_type(ports, number, b);
+    let place = buffer_place(types, b.place, t)?;
+    let message = message_number(types, t);
+    Ok(BufferSymbol {
+        name: Text::copied(alloc, &b.name.text)?,
+        place,
+        ordered: is_ordered(d),
+        message,
+    })
+}
+
+/// Adds the buffer that a declaration of the machine of this number declares, if it does, where these are the ports of all
+/// machines.
+pub fn add_buffer<'a>(
+    alloc: Global,
+    list: &mut Seq<BufferSymbol>,
+    types: &TypeNumbers<'a>,
+    ports: &[PortOn<'a>],
+    number: u16,
+    m: &'a Machine,
+    d: Declared<'a>,
+) -> Result<(), NoMemory>
+    requires types { AreNumbered types.now }
+    requires ports { map port_seen ports.now ≡ all_ports (trees_of types.now) }
+    ensures { OnOk result (list.new ≡ list.old ++ buffer_symbol (trees_of types.now) number m.now (declaration_of d.entry)) }
+{
+    match buffer_in(&types.scopes, m, d) {
+        None => Ok(()),
+        Some(b) => list.push(buffer_of_place(alloc, types, ports, number, d, b)?),
+    }
 }

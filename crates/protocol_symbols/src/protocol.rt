@@ -1,21 +1,18 @@
 //! A whole protocol as symbols.
 ghost use Rattle.std.specs.Prelude.{◌≡◌, ◌++◌, IfOk, OnOk, map};
-ghost use Rattle.slicc_plan.specs.Declarations.{machines_of};
-ghost use Rattle.slicc_plan.specs.Networks.{all_ports};
-ghost use Rattle.slicc_plan.specs.SymbolsOf.{machines_from, symbols_of};
-ghost use Rattle.type_numbers.specs.Ports.{port_seen};
-ghost use Rattle.type_numbers.specs.Numbered.{AreNumbered, trees_of};
+ghost use Rattle.slicc_plan.specs.Prelude.{machines_of, all_ports, machines_from, symbols_of};
+ghost use Rattle.machine_table.specs.Prelude.{port_seen};
+ghost use Rattle.type_numbers.specs.Prelude.{AreNumbered, trees_of};
 
-use crate::enumerations::add_all_enumerations;
 use crate::machine::machine_symbols;
-use crate::structures::add_all_structures;
+use crate::types::{add_all_enumerations, add_all_structures};
 use declared_types::Scopes;
-use machine_table::kept_number;
+use machine_table::{PortOn, all_ports, kept_number};
 use ruby_base::{NoMemory, Seq};
 use ruby_symbols::{MachineSymbols, Symbols};
 use slicc_ast::tree::Machine;
 use std::alloc::Global;
-use type_numbers::{PortOn, TypeNumbers, all_ports, number_types};
+use type_numbers::{TypeNumbers, number_types};
 
 fn add_machines<'a>(
     alloc: Global,
@@ -43,7 +40,7 @@ fn add_all_machines<'a>(
     requires { AreNumbered types.now }
     ensures { OnOk result (list.new ≡ list.old ++ machines_from (trees_of types.now) 0 (machines_of (trees_of types.now))) }
 {
-    let ports = all_ports(alloc, types)?;
+    let ports = all_ports(alloc, &types.scopes)?;
     add_machines(alloc, list, types, &ports, &types.machines)
 }
 

@@ -1,25 +1,27 @@
-//! The states and events of a machine.
+//! The states, events and transitions of a machine.
 ghost use Rattle.std.specs.Prelude.{◌≡◌, ◌++◌, IfOk, OnOk, map, position};
 ghost use Rattle.std.specs.Option.{option_copied, option_map};
 ghost use Rattle.std.specs.Str.{bytes_eq};
-ghost use Rattle.slicc_ast.specs.declared.tree.declaration.State.{State as StateRecord};
+ghost use Rattle.slicc_ast.specs.declared.tree.declaration.State.{State};
 ghost use Rattle.slicc_plan.specs.Declarations.{enumeration};
-ghost use Rattle.slicc_plan.specs.Declarations.{states as states_declaration};
-ghost use Rattle.slicc_plan.specs.SymbolsOfMachines.{number_of_found, permission_number, permissions_found};
+ghost use Rattle.slicc_plan.specs.Prelude.{states, number_of_found, permission_number, permissions_found, written_of, transition_symbol};
 ghost use Rattle.declared_types.specs.Types.{texts_of};
-ghost use Rattle.type_numbers.specs.Numbered.{AreNumbered, trees_of};
+ghost use Rattle.type_numbers.specs.Prelude.{AreNumbered, trees_of};
 
 use crate::names::place_named;
 use declared_types::{KnownType, Scope, fixed_members};
+use machine_table::written_transitions;
 use ruby_base::{NoMemory, Seq};
+use ruby_symbols::TransitionSymbol;
 use slicc_ast::tree::{Enumeration, Machine, State, States};
-use slicc_plan::BuiltInType;
+use slicc_plan::{BuiltInType, Written};
+use std::alloc::Global;
 use type_numbers::{TypeNumbers, declared_number, kept_or};
 
 /// The number of these states of a machine among the enumerations.
 pub fn states_number<'a>(types: &TypeNumbers<'a>, m: &'a Machine, s: Option<&'a States>) -> u16
     requires { AreNumbered types.now }
-    ensures { result ≡ number_of_found (trees_of types.now) m.now (option_map states_declaration (option_copied s.entry)) }
+    ensures { result ≡ number_of_found (trees_of types.now) m.now (option_map states (option_copied s.entry)) }
 {
     match s {
         None => 65535,
@@ -58,7 +60,7 @@ fn permission_number(text: &[u8]) -> Result<u16, NoMemory>
 }
 
 fn add_permissions_of(list: &mut Seq<u16>, members: &[State]) -> Result<(), NoMemory>
-    ensures { OnOk result (list.new ≡ list.old ++ map (λ (s : StateRecord). permission_number s.permission.text) members.now) }
+    ensures { OnOk result (list.new ≡ list.old ++ map (λ (s : State). permission_number s.permission.text) members.now) }
 {
     for s in members {
         list.push(permission_number(&s.permission.text)?)?;
@@ -68,10 +70,49 @@ fn add_permissions_of(list: &mut Seq<u16>, members: &[State]) -> Result<(), NoMe
 
 /// Adds the numbers of the permissions of a machine's states.
 pub fn add_permissions(list: &mut Seq<u16>, s: Option<&States>) -> Result<(), NoMemory>
-    ensures { OnOk result (list.new ≡ list.old ++ permissions_found (option_map states_declaration (option_copied s.entry))) }
+    ensures { OnOk result (list.new ≡ list.old ++ permissions_found (option_map states (option_copied s.entry))) }
 {
     match s {
         None => Ok(()),
         Some(s) => add_permissions_of(list, &s.members),
     }
+}
+
+fn transition_symbol(alloc: Global, t: &Written) -> Result<TransitionSymbol, NoMemory>
+    ensures { IfOk result (λ s. s ≡ transition_symbol t.now) }
+{
+    let states = Seq::copied(alloc, &t.states)?;
+    let events = Seq::copied(alloc, &t.events)?;
+    let actions = Seq::copied(alloc, &t.actions)?;
+    Ok(TransitionSymbol {
+        states,
+        events,
+        next: t.next,
+        actions,
+    })
+}
+
+fn add_written(
+    alloc: Global,
+    list: &mut Seq<TransitionSymbol>,
+    written: &[Written],
+) -> Result<(), NoMemory>
+    ensures { OnOk result (list.new ≡ list.old ++ map transition_symbol written.now) }
+{
+    for t in written {
+        list.push(transition_symbol(alloc, t)?)?;
+    }
+    Ok(())
+}
+
+/// Adds the transitions of a machine as they are written.
+pub fn add_transitions(
+    alloc: Global,
+    list: &mut Seq<TransitionSymbol>,
+    m: &Machine,
+) -> Result<(), NoMemory>
+    ensures { OnOk result (list.new ≡ list.old ++ map transition_symbol (written_of m.now)) }
+{
+    let written = written_transitions(alloc, m)?;
+    add_written(alloc, list, &written)
 }

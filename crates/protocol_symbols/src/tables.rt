@@ -1,17 +1,14 @@
-//! The tables of lines of a machine.
-ghost use Rattle.std.specs.Prelude.{◌≡◌, ◌++◌, IfOk, OnOk, unwrap_or};
-ghost use Rattle.std.specs.Option.{option_map};
-ghost use Rattle.slicc_plan.specs.Declarations.{machine_declarations};
-ghost use Rattle.slicc_plan.specs.SymbolsOfMachines.{line_number, table_of_sort};
-ghost use Rattle.slicc_plan.specs.Tables.{line_structure, table_sort, written_entries};
-ghost use Rattle.slicc_plan.specs.TypeNumbers.{no_structure};
-ghost use Rattle.declared_types.specs.Lent.{declarations_of, type_of};
-ghost use Rattle.type_numbers.specs.Numbered.{AreNumbered, trees_of};
+//! The tables of lines of a machine, and its sequencer.
+ghost use Rattle.std.specs.Prelude.{◌≡◌, ◌++◌, IfOk, OnOk, unwrap_or, filter_map, slice_get};
+ghost use Rattle.std.specs.Option.{option_map, option_copied};
+ghost use Rattle.slicc_plan.specs.Prelude.{machine_declarations, line_number, table_of_sort, line_structure, table_sort, written_entries, no_structure, sequencer_in};
+ghost use Rattle.declared_types.specs.Prelude.{declarations_of, type_of, declaration_of};
+ghost use Rattle.type_numbers.specs.Prelude.{AreNumbered, trees_of};
 
 use crate::lines::{line_number, line_structure};
 use crate::names::in_32_bits;
 use declaration_rules::{is_built_in, number_value};
-use declared_types::{Declared, KnownType, LineSort, first_attribute};
+use declared_types::{Declared, KnownType, LineSort, Scope, first_attribute, type_in};
 use ruby_base::{NoMemory, Seq, Text};
 use ruby_symbols::{TableSort, TableSymbol};
 use slicc_ast::tree::{Machine, Pairs};
@@ -108,4 +105,45 @@ pub fn add_table<'a>(
 {
     let sort = table_sort(t, pairs)?;
     add_of_sort(alloc, list, types, m, declarations, name, sort)
+}
+
+// The name of a sequencer that is declared.
+fn sequencer_in<'a>(types: &TypeNumbers<'a>, m: &'a Machine, d: Declared<'a>) -> Option<&'a Text>
+    ensures { option_copied result ≡ sequencer_in (trees_of types.now) m.now (declaration_of d.entry) }
+{
+    match d {
+        Declared::Parameter(p) => {
+            let t = type_in(&types.scopes, Scope::Within(m), &p.kind.text);
+            if is_built_in(BuiltInType::Sequencer, t) {
+                Some(&p.name.text)
+            } else {
+                None
+            }
+        }
+        Declared::Object(o) => {
+            let t = type_in(&types.scopes, Scope::Within(m), &o.kind.text);
+            if is_built_in(BuiltInType::Sequencer, t) {
+                Some(&o.name.text)
+            } else {
+                None
+            }
+        }
+        _ => None,
+    }
+}
+
+/// The name of the first sequencer among what a machine declares.
+pub fn sequencer<'a>(
+    types: &TypeNumbers<'a>,
+    m: &'a Machine,
+    declarations: &[Declared<'a>],
+) -> Option<&'a Text>
+    ensures { option_copied result ≡ slice_get (filter_map (sequencer_in (trees_of types.now) m.now) (declarations_of declarations.now)) 0 }
+{
+    for d in declarations {
+        if let Some(name) = sequencer_in(types, m, *d) {
+            return Some(name);
+        }
+    }
+    None
 }

@@ -2,9 +2,10 @@
 ghost use Rattle.std.specs.Prelude.{◌≡◌, ◌++◌, IfOk, None, OnOk, neg_ℤ};
 ghost use Rattle.std.specs.Option.{option_copied, option_map};
 ghost use Rattle.ruby_value.specs.declared.value.Value.TheVariants as value;
-ghost use Rattle.slicc_plan.specs.MachineValues.{literal_value, value_of_kind, value_of_type, written_value};
-ghost use Rattle.declared_types.specs.Lent.{type_of};
-ghost use Rattle.type_numbers.specs.Numbered.{AreNumbered, trees_of};
+ghost use Rattle.slicc_plan.specs.MachineValues.{value_of_type};
+ghost use Rattle.slicc_plan.specs.Prelude.{literal_value, value_of_kind, written_value};
+ghost use Rattle.declared_types.specs.Prelude.{type_of};
+ghost use Rattle.type_numbers.specs.Prelude.{AreNumbered, trees_of};
 
 use declaration_rules::is_built_in;
 use declared_types::KnownType;

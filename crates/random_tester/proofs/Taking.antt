@@ -2,14 +2,9 @@
 use Rattle.std.proofs.Common.{◌≡◌, ℕ, ◌+◌, ◌-◌, ◌<◌, ◌≤◌, suc, Option, Some, None, List, [], length, sym, ap, subst, ◌∙◌, arith}
 use Rattle.ruby_value.specs.declared.asked.Answer.{Answer}
 use Rattle.ruby_value.specs.declared.fault.Finding.{Finding}
-use Rattle.sequencer.specs.Drive.{after_taking}
-use Rattle.sequencer.specs.Seats.{Seat, controller_at, first_answer_at, without_answer_at}
-use Rattle.random_tester.specs.Answers.{from, taken-at}
-use Rattle.random_tester.specs.Law.{from-next, none-left}
+use Rattle.sequencer.specs.Prelude.{after_taking, Seat, controller_at, first_answer_at, without_answer_at}
+use Rattle.random_tester.specs.Prelude.{from, taken-at, from-next, none-left, State, stopped, took-none, took-on, took-stop, Finished, Took, and_before, judged, took}
 use Rattle.sequencer.proofs.SeatsAfter.{length-of-one, unchanged}
-use Rattle.random_tester.specs.State.{State}
-use Rattle.random_tester.specs.Took.{stopped, took-none, took-on, took-stop}
-use Rattle.random_tester.specs.Turn.{Finished, Took, and_before, judged, took}
 
 -- two testers at seats take answers, from these seats on, to the same end
 pub record SameEnd (t : State) (seats : List Seat) (k : ℕ) (t0 : State) (seats0 : List Seat) (k0 : ℕ) : Type 0 where

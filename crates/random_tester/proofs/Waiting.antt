@@ -9,13 +9,10 @@ use Rattle.ruby_value.specs.declared.asked.Asked.{Asked}
 use Rattle.ruby_value.specs.declared.fault.Finding.{Finding}
 use Rattle.ruby_value.specs.declared.fault.Finding.TheVariants.{Deadlock}
 use Rattle.ruby_value.proofs.Ordered.{AllPairs-head, AllPairs-nil, AllPairs-tail}
-use Rattle.sequencer.specs.Kept.{ComesBefore}
-use Rattle.sequencer.specs.Reads.{is_above, next_after}
-use Rattle.ruby_value.specs.Requests.{Requests, first_of}
-use Rattle.sequencer.specs.Seats.{FitsSeat, Seat, controller_at, next_at, requests_at}
+use Rattle.sequencer.specs.Prelude.{ComesBefore, is_above, next_after, FitsSeat, Seat, controller_at, next_at, requests_at}
+use Rattle.ruby_value.specs.Prelude.{Requests, first_of}
 use Rattle.sequencer.proofs.FitsByLine.{by_line-fits}
-use Rattle.random_tester.specs.Law.{drop-all}
-use Rattle.random_tester.specs.Turn.{late, late_at, outstanding_of}
+use Rattle.random_tester.specs.Prelude.{drop-all, late, late_at, outstanding_of}
 
 abbrev pub has_waited : ℕ → ℕ → Asked → Bool
 has_waited deadlock now a = nat_le deadlock (now - a.issued)

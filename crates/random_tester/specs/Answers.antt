@@ -3,8 +3,8 @@ use Rattle.std.specs.Prelude.{◌≡◌, ◌<◌, ◌+◌, ℕ, zero, suc, Optio
 use Rattle.std.proofs.Common.{arith, ap, sym, ◌∙◌}
 use Rattle.std.specs.Option.{option_and_then, option_map}
 use Rattle.ruby_value.specs.declared.asked.Answer.{Answer}
-use Rattle.ruby_value.specs.Requests.{Requests, first_of, rest_of, without_first_answer}
-use Rattle.sequencer.specs.Seats.{Seat, changed_seat, controller_at, first_answer_at, without_answer_at}
+use Rattle.ruby_value.specs.Prelude.{Requests, first_of, rest_of, without_first_answer}
+use Rattle.sequencer.specs.Prelude.{Seat, changed_seat, controller_at, first_answer_at, without_answer_at}
 use Rattle.sequencer.proofs.SeatsAfter.{further}
 use Rattle.random_tester.specs.Turn.{Finished, finished_at, finished_from}
 

@@ -7,16 +7,14 @@ use Rattle.std.proofs.lemmas.List.Elements.{All-append, All-filter, All-head, Al
 use Rattle.std.proofs.lemmas.Nat.{mod_below, or_of_32}
 use Rattle.std.proofs.Math.Nat.{div-le_self, mod-le}
 use Rattle.std.specs.List.{All, filter}
-use Rattle.pcg_words.specs.Word.{generator_after, word}
+use Rattle.pcg_words.specs.Prelude.{generator_after, word}
 use Rattle.ruby_value.specs.declared.asked.Answer.{Answer}
 use Rattle.ruby_value.specs.declared.asked.Asked.{Asked}
 use Rattle.ruby_value.specs.declared.fault.Finding.{Finding}
 use Rattle.ruby_value.specs.declared.fault.Finding.TheVariants.{Deadlock}
 use Rattle.ruby_value.proofs.Contained.{Contains-cons_here, Contains-cons_there}
-use Rattle.sequencer.specs.Drive.{CanIssue, CanIssueOne, CanTake, Drive, IsFindingAt, IsLawful, after_taking}
-use Rattle.ruby_value.specs.Lines.{IsLine}
-use Rattle.ruby_value.specs.Requests.{IsRequest, Requests, first_of}
-use Rattle.sequencer.specs.Seats.{FitSeats, FitsSeat, Seat, Seating, controller_at, first_answer_at, outstanding_at, with_seats, without_answer_at}
+use Rattle.sequencer.specs.Prelude.{CanIssue, CanIssueOne, CanTake, Drive, IsFindingAt, IsLawful, after_taking, FitSeats, FitsSeat, Seat, Seating, controller_at, first_answer_at, outstanding_at, with_seats, without_answer_at}
+use Rattle.ruby_value.specs.Prelude.{IsLine, IsRequest, Requests, first_of}
 use Rattle.sequencer.proofs.FitsByLine.{by_line-fits}
 use Rattle.random_tester.specs.declared.slot.Slot.{Slot}
 use Rattle.random_tester.specs.Answers.{from, none-at, taken-at}

@@ -4,3 +4,4 @@ pub mod Slot
 pub mod State
 pub mod Took
 pub mod Turn
+pub mod Prelude

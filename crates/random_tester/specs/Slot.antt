@@ -6,7 +6,7 @@ use Rattle.std.specs.List.{filter}
 use Rattle.ruby_value.specs.declared.asked.Ask.{Ask}
 use Rattle.ruby_value.specs.declared.asked.Ask.TheVariants.{Load, Store, Fetch}
 use Rattle.ruby_value.specs.declared.asked.Asked.{Asked}
-use Rattle.ruby_value.specs.Requests.{first_of}
+use Rattle.ruby_value.specs.Prelude.{first_of}
 use Rattle.random_tester.specs.declared.slot.Slot.{Slot}
 
 -- before its first store

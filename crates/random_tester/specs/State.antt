@@ -1,7 +1,7 @@
 -- The random tester between two turns: where its stream of random words stands, how many checks have to pass, after how many
 -- cycles an outstanding request is a deadlock, a slot for each line from 0 on, and how many checks have passed.
 use Rattle.std.specs.Prelude.{ℕ, List, length, replicate, slice_set}
-use Rattle.pcg_words.specs.Position.{Position, next_position}
+use Rattle.pcg_words.specs.Prelude.{Position, next_position}
 use Rattle.random_tester.specs.declared.slot.Slot.{Slot}
 use Rattle.random_tester.specs.Slot.{fresh_slot}
 

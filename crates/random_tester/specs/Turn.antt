@@ -3,16 +3,14 @@
 -- The next cycle at which it must act is the next multiple of 10. All of this is this project's own.
 use Rattle.std.specs.Prelude.{ℕ, ◌+◌, ◌*◌, ◌/◌, ◌%◌, ◌-◌, ◌==◌, Bool, false, Option, None, Some, List, [], ◌∷◌, ◌++◌, is_none, nat_le, nat_lt, length, map, slice_get, slice_index_or, if◌then◌else◌}
 use Rattle.std.specs.List.{filter}
-use Rattle.pcg_words.specs.Below.{below}
+use Rattle.pcg_words.specs.Prelude.{below}
 use Rattle.ruby_value.specs.declared.asked.Answer.{Answer}
 use Rattle.ruby_value.specs.declared.asked.Asked.{Asked}
 use Rattle.ruby_value.specs.declared.fault.Finding.{Finding}
 use Rattle.ruby_value.specs.declared.fault.Finding.TheVariants.{Incoherent, Deadlock, Passed}
 use Rattle.sequencer.specs.declared.issued.Issued.{Issued}
-use Rattle.sequencer.specs.Drive.{Drive, Taken, after_taking}
-use Rattle.sequencer.specs.Reads.{by_line}
-use Rattle.ruby_value.specs.Requests.{Requests, first_of}
-use Rattle.sequencer.specs.Seats.{Seat, outstanding_at}
+use Rattle.sequencer.specs.Prelude.{Drive, Taken, after_taking, by_line, Seat, outstanding_at}
+use Rattle.ruby_value.specs.Prelude.{Requests, first_of}
 use Rattle.random_tester.specs.declared.slot.Slot.{Slot}
 use Rattle.random_tester.specs.Slot.{first_difference, fresh_slot, is_same_request, request_of, value_at}
 use Rattle.random_tester.specs.State.{State, drawn_on, with_slot}

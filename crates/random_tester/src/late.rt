@@ -1,9 +1,9 @@
 // Which request has waited too long.
 ghost use Rattle.std.specs.Prelude.{◌≡◌, ◌<◌, Some, length, slice_get};
 ghost use Rattle.std.specs.List.{All};
-ghost use Rattle.ruby_value.specs.Requests.{first_of};
-ghost use Rattle.sequencer.specs.Seats.{FitsSeat, Seat};
-ghost use Rattle.random_tester.specs.Turn.{late, late_at};
+ghost use Rattle.ruby_value.specs.Prelude.{first_of};
+ghost use Rattle.sequencer.specs.Prelude.{FitsSeat, Seat};
+ghost use Rattle.random_tester.specs.Prelude.{late, late_at};
 
 use sequencer::{Finding, Seats};
 

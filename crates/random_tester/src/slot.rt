@@ -1,6 +1,6 @@
 // A line's slot, which stores four bytes of the line and then loads and compares them.
 ghost use Rattle.std.specs.Prelude.{◌≡◌, ◌≤◌, ◌<◌, ◌^◌};
-ghost use Rattle.ruby_value.specs.Requests.{IsRequest};
+ghost use Rattle.ruby_value.specs.Prelude.{IsRequest};
 ghost use Rattle.random_tester.specs.Slot.{first_difference, is_same_kind, is_same_request, request_of, value_at};
 ghost use Rattle.random_tester.specs.Turn.{is_to};
 

@@ -1,6 +1,5 @@
 ghost use Rattle.std.specs.Prelude.{◌≡◌, ◌≤◌, ◌<◌, IfOk, length, slice_get};
-ghost use Rattle.sequencer.specs.Drive.{after_drive, after_issuing, after_taking};
-ghost use Rattle.sequencer.specs.Seats.{FitSeats};
+ghost use Rattle.sequencer.specs.Prelude.{after_drive, after_issuing, after_taking, FitSeats};
 ghost use Rattle.random_tester.specs.Law.{tester_lawful, tester_lasting};
 ghost use Rattle.random_tester.specs.State.{made, opening, with_slot};
 ghost use Rattle.random_tester.specs.Turn.{act, after_check, finished_from, judged, took, tester_drive, tester_needs};

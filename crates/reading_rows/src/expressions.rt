@@ -1,6 +1,6 @@
 // Texts that are read as expressions.
 ghost use Rattle.std.specs.Prelude.{◌≤◌, length};
-ghost use Rattle.slicc_lex.specs.Syntax.{AreEnded};
+ghost use Rattle.slicc_lex.specs.Prelude.{AreEnded};
 
 use crate::forms::Reading;
 use ruby_base::Seq;

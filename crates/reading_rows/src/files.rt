@@ -1,6 +1,6 @@
 // Whole files, and the places of the nodes of their trees.
 ghost use Rattle.std.specs.Prelude.{◌≤◌, length};
-ghost use Rattle.slicc_parse.specs.Parsed.{AreEndedOnce};
+ghost use Rattle.slicc_parse.specs.Prelude.{AreEndedOnce};
 
 use crate::tokens::add_span;
 use ruby_base::Seq;

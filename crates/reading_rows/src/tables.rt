@@ -1,6 +1,6 @@
 // Names by their numbers, rows of tables and lines that transitions need, of the two protocols of the rows.
 ghost use Rattle.std.specs.Prelude.{◌≤◌, length};
-ghost use Rattle.slicc_parse.specs.Parsed.{AreEndedOnce};
+ghost use Rattle.slicc_parse.specs.Prelude.{AreEndedOnce};
 
 use machine_table::build_of_trees;
 use ruby_base::{Seq, Text};

@@ -1,7 +1,7 @@
 // Texts that have tokens.
 ghost use Rattle.std.specs.Prelude.{◌≤◌, length};
-ghost use Rattle.slicc_lex.specs.Syntax.{AreEnded};
-ghost use Rattle.slicc_parse.specs.Parsed.{AreEndedOnce};
+ghost use Rattle.slicc_lex.specs.Prelude.{AreEnded};
+ghost use Rattle.slicc_parse.specs.Prelude.{AreEndedOnce};
 
 use crate::blocks::add_block;
 use crate::declarations::add_form;

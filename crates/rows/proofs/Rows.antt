@@ -1,13 +1,10 @@
 -- The row of a call, from what the call did with its sink and from what is printed of it.
 use Rattle.std.proofs.Common.{◌≡◌, ℕ, List, [], Result, Ok, Err, IfOk, subst, ap, ◌∙◌}
 use Rattle.ruby_outside.specs.declared.library.Got.{Got}
-use Rattle.ruby_outside.specs.Plan.{begun}
-use Rattle.ruby_outside.specs.Sink.{SinkState, IsPlannedWrite}
+use Rattle.ruby_outside.specs.Prelude.{begun, SinkState, IsPlannedWrite}
 use Rattle.ruby_answers.specs.declared.done.Done.{Done}
-use Rattle.ruby_cli.specs.Call.{IsAnswered}
-use Rattle.ruby_cli.specs.Words.{asked_by}
-use Rattle.rows.specs.Call.{IsRow}
-use Rattle.rows.specs.Row.{row_of}
+use Rattle.ruby_cli.specs.Prelude.{IsAnswered, asked_by}
+use Rattle.rows.specs.Prelude.{IsRow, row_of}
 
 -- a sink with room for so many bytes, which fails at these writes
 abbrev pub sink_failing : ℕ → List ℕ → SinkState

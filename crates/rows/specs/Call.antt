@@ -2,11 +2,9 @@
 -- then holds and of the status that the call ends with.
 use Rattle.std.specs.Prelude.{◌≡◌, ℕ, List, []}
 use Rattle.ruby_outside.specs.declared.library.Got.{Got}
-use Rattle.ruby_outside.specs.Plan.{begun}
-use Rattle.ruby_outside.specs.Sink.{SinkState, IsPlannedWrite}
+use Rattle.ruby_outside.specs.Prelude.{begun, SinkState, IsPlannedWrite}
 use Rattle.ruby_answers.specs.declared.done.Done.{Done}
-use Rattle.ruby_cli.specs.Call.{IsAnswered}
-use Rattle.ruby_cli.specs.Words.{asked_by}
+use Rattle.ruby_cli.specs.Prelude.{IsAnswered, asked_by}
 use Rattle.rows.specs.Row.{row_of}
 
 -- a sink with room for so many bytes

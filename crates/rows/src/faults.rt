@@ -167,31 +167,15 @@ fn add_made(rows: &mut RowText, line: &str, text: &[u8], made: (u8, bool)) {
     });
 }
 
-fn sink_of(alloc: Global, planned: &Planned) -> Result<MemSink, NoMemory> {
-    let fails = Seq::copied(alloc, &[planned.write])?;
-    MemSink::new(alloc, fails, planned.most, planned.room)
+// Which reads fail, and an empty sink, as planned.
+fn faults_of(alloc: Global, planned: &Planned) -> Result<(Seq<u64>, MemSink), NoMemory> {
+    let reads = Seq::copied(alloc, &[planned.read])?;
+    let writes = Seq::copied(alloc, &[planned.write])?;
+    let sink = MemSink::new(alloc, writes, planned.most, planned.room)?;
+    Ok((reads, sink))
 }
 
-// Adds the row of a call over a library and a sink with planned faults.
-fn add_by<R: Threads + Wait + Sync>(
-    rt: &R,
-    rows: &mut RowText,
-    line: &str,
-    planned: &Planned,
-    library: &mut MemLibrary,
-    call: &[String],
-) {
-    match sink_of(rows.alloc(), planned) {
-        Ok(mut sink) => {
-            let made = made(rt, rows.alloc(), call, library, &mut sink);
-            add_made(rows, line, last_lines(sink.bytes(), planned.lines), made);
-            drop(sink);
-        }
-        Err(NoMemory) => rows.lose(),
-    }
-}
-
-// The same, over a library with these files.
+// Adds the row of a call over a library with these files and a sink, with planned faults.
 fn add_planned<R: Threads + Wait + Sync>(
     rt: &R,
     rows: &mut RowText,
@@ -200,11 +184,13 @@ fn add_planned<R: Threads + Wait + Sync>(
     files: Seq<(Text, Text)>,
     call: &[String],
 ) {
-    match Seq::copied(rows.alloc(), &[planned.read]) {
-        Ok(reads) => {
+    match faults_of(rows.alloc(), planned) {
+        Ok((reads, mut sink)) => {
             let mut library = MemLibrary::new(rows.alloc(), files, reads);
-            add_by(rt, rows, line, planned, &mut library, call);
+            let made = made(rt, rows.alloc(), call, &mut library, &mut sink);
             drop(library);
+            add_made(rows, line, last_lines(sink.bytes(), planned.lines), made);
+            drop(sink);
         }
         Err(NoMemory) => {
             drop(files);

@@ -39,20 +39,6 @@ pub(crate) fn add_words(
     Ok(())
 }
 
-fn add_call<R: Threads + Wait + Sync, L: Library>(
-    rt: &R,
-    rows: &mut RowText,
-    list: List,
-    line: &str,
-    words: &[String],
-    library: &mut L,
-) {
-    match list {
-        List::Calls => add(rows, table::row(rt, rows.alloc(), line, words, library)),
-        List::Faults => faults::add_row(rt, rows, line, words, library),
-    }
-}
-
 // Adds the row of a line.
 fn add_line<R: Threads + Wait + Sync, L: Library>(
     rt: &R,
@@ -63,7 +49,13 @@ fn add_line<R: Threads + Wait + Sync, L: Library>(
 ) {
     let mut words = Vec::new(rows.alloc());
     match add_words(rows.alloc(), line, &mut words) {
-        Ok(()) => add_call(rt, rows, list, line, words.as_slice(), library),
+        Ok(()) => match list {
+            List::Calls => add(
+                rows,
+                table::row(rt, rows.alloc(), line, words.as_slice(), library),
+            ),
+            List::Faults => faults::add_row(rt, rows, line, words.as_slice(), library),
+        },
         Err(NoMemory) => rows.lose(),
     }
     drop(words);

@@ -2,9 +2,8 @@
 //! `== WORDS`, the text of the answer, and a line `status N`. The calls are the lines of the file `calls`, over the files of the folder that
 //! the program is run in, so that the calls in `data/calls` and their answers in `stdout` are rows of a table: each says what the whole
 //! program makes of a protocol, and a further row is a file and its lines, and no proof. After them come the calls of the file `faults`, over
-//! libraries and sinks in memory; the runs of the file `worlds/rows`, whose requests are those of a script; the rows of parts of the program,
-//! by `part_rows`; of what is read in texts, by `reading_rows`; of the parts of controllers, by `controller_rows`; of what comes in and
-//! goes out and of command lines, by `reading_rows` again; and the scans of small protocols, by `scan_rows`.
+//! libraries and sinks in memory; and the runs of the file `worlds/rows`, whose requests are those of a script. What no whole call shows
+//! is printed by the program `parts`.
 //!
 //! With words, it makes one run of its own, which is for `bench/world`.
 #![tactic(auto)]
@@ -15,13 +14,9 @@ mod row;
 mod table;
 mod worlds;
 
-use controller_rows::add_controllers;
 use lists::{List, add_list};
-use part_rows::add_parts;
-use reading_rows::{add_options, add_outside, add_readings};
 use ruby_options::words;
 use ruby_outside::{FileLibrary, Library, RowText, Sink, StdSink, put};
-use scan_rows::add_scans;
 use std::alloc::Global;
 use std::process::ExitCode;
 use std::sync::Wait;
@@ -40,23 +35,6 @@ fn write_calls<R: Threads + Wait + Sync, L: Library, S: Sink>(
     put(sink, rows.bytes()) && rows.is_whole()
 }
 
-// The same, of the rows of the libraries of rows.
-fn write_parts<L: Library, S: Sink>(alloc: Global, library: &mut L, sink: &mut S) -> bool {
-    let mut rows = RowText::new(alloc);
-    add_parts(&mut rows, library);
-    rows.add("# readings\n");
-    add_readings(&mut rows, library);
-    rows.add("# controllers\n");
-    add_controllers(&mut rows);
-    rows.add("# outside\n");
-    add_outside(&mut rows, library);
-    rows.add("# options\n");
-    add_options(&mut rows, library);
-    rows.add("# scans\n");
-    add_scans(&mut rows, library);
-    put(sink, rows.bytes()) && rows.is_whole()
-}
-
 // Writes the run that these words say, or without words all rows, and answers whether it was written whole.
 fn write<R: Threads + Wait + Sync, L: Library, S: Sink>(
     rt: &R,
@@ -68,9 +46,7 @@ fn write<R: Threads + Wait + Sync, L: Library, S: Sink>(
     if !words.is_empty() {
         return worlds::write_row(alloc, words, library, sink);
     }
-    write_calls(rt, alloc, library, sink)
-        && worlds::write_list(alloc, library, sink)
-        && write_parts(alloc, library, sink)
+    write_calls(rt, alloc, library, sink) && worlds::write_list(alloc, library, sink)
 }
 
 fn main(rt: HostRuntime) -> ExitCode {

@@ -1,6 +1,6 @@
 // One row: what is printed of a call.
 ghost use Rattle.std.specs.Prelude.{◌≡◌, ◌++◌, IfOk, OnOk};
-ghost use Rattle.rows.specs.Row.{ending_of, row_of as row_of_call, status_line};
+ghost use Rattle.rows.specs.Prelude.{ending_of, row_of, status_line};
 
 use ruby_base::{NoMemory, Text};
 use ruby_outside::RowText;
@@ -25,7 +25,7 @@ fn add_status(alloc: Global, row: &mut Text, status: u8) -> Result<(), NoMemory>
 
 /// What is printed of a call, by its text and its status.
 pub(crate) fn row_of(alloc: Global, call: &str, text: &[u8], status: u8) -> Result<Text, NoMemory>
-    ensures { IfOk result (λ row. row ≡ row_of_call call.now text.now status) }
+    ensures { IfOk result (λ row. row ≡ row_of call.now text.now status) }
 {
     let mut row = Text::copied(alloc, b"== ")?;
     row.append(call.as_bytes())?;

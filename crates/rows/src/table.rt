@@ -1,6 +1,6 @@
 // Calls of the program, and what they answer.
 ghost use Rattle.std.specs.Prelude.{◌≡◌, IfOk, map, string_bytes};
-ghost use Rattle.rows.specs.Call.{IsRow};
+ghost use Rattle.rows.specs.Prelude.{IsRow};
 
 use crate::row::row_of;
 use ruby_base::{NoMemory, Seq, Text};

@@ -4,33 +4,27 @@ use Rattle.std.proofs.lemmas.List.{append-nil}
 use Rattle.std.specs.List.{IsDistinct}
 use Rattle.ruby_outside.specs.declared.library.Got.{Got}
 use Rattle.ruby_outside.specs.declared.library.Got.TheVariants as got
-use Rattle.ruby_outside.specs.Files.{Files, IsSureRead}
-use Rattle.ruby_outside.specs.Lawful.{sure_read}
+use Rattle.ruby_outside.specs.Prelude.{Files, IsSureRead, sure_read}
 use Rattle.slicc_ast.specs.declared.tree.item.Tree.{Tree}
-use Rattle.slicc_files.specs.Gathering.{IsGatheredFrom, IsGatheredOver}
-use Rattle.slicc_files.specs.Gathering.IsGathered.{no_memory}
-use Rattle.slicc_files.specs.Reads.{Read, AreMade, AreOfOneNameEach, file_limit}
+use Rattle.slicc_files.specs.Prelude.{IsGatheredFrom, IsGatheredOver, no_memory, Read, AreMade, AreOfOneNameEach, file_limit}
 use Rattle.slicc_files.specs.declared.gathered.Gathered.{Gathered}
 use Rattle.slicc_files.specs.declared.gathered.Gathered.TheVariants as gathered
 use Rattle.slicc_front.specs.declared.answer.Front.{Front}
 use Rattle.slicc_front.specs.declared.answer.Front.TheVariants as front
-use Rattle.slicc_front.specs.Fronts.{IsFrontBy, IsFrontIfRoom, IsFrontOf}
+use Rattle.slicc_front.specs.Prelude.{IsFrontBy, IsFrontIfRoom, IsFrontOf}
 use Rattle.slicc_files.proofs.OneNameEach.{one_name_each}
 use Rattle.slicc_files.proofs.Told.{HasFailed, all_read}
 use Rattle.slicc_files.proofs.Ways.{begun, given_or_failed}
-use Rattle.ruby_answers.specs.Generated.{generated_name}
+use Rattle.ruby_answers.specs.Prelude.{generated_name, IsBeginning, IsTopologyAtMost, IsAfter, IsAnswerOf, IsFoundBy, IsFoundFurther, is_generated, IsProtocolRead, IsReadBy, IsRight, IsRightBy, IsRightGot, IsRightTo, IsRunAnswer, IsRunOf, Topologies, generated_files, plain_topologies, topologies_said, topology_read}
 use Rattle.ruby_options.specs.declared.options.Command.{Command}
 use Rattle.ruby_options.specs.declared.options.Command.TheVariants.{Run, Plain, Check, Table, Code, Gen}
 use Rattle.ruby_options.specs.declared.options.Options.{Options}
-use Rattle.ruby_topology.specs.declared.rules.TopoFault.{TopoFault}
-use Rattle.ruby_topology.specs.declared.rules.TopoFault.TheVariants.{Line, NoMemory}
-use Rattle.ruby_topology.specs.Faults.{ForLine}
+use Rattle.ruby_topology.specs.declared.forms.TopoFault.{TopoFault}
+use Rattle.ruby_topology.specs.declared.forms.TopoFault.TheVariants.{Line, NoMemory}
+use Rattle.ruby_topology.specs.Prelude.{ForLine}
 use Rattle.protocol_meaning.specs.declared.record.RunRecord.{RunRecord}
-use Rattle.ruby_answers.specs.declared.answer.Answer.{Answer}
-use Rattle.ruby_answers.specs.declared.answer.Answer.TheVariants.{Ran, Generated}
-use Rattle.ruby_answers.specs.Call.{IsBeginning, IsTopologyAtMost}
-use Rattle.ruby_answers.specs.Find.{IsAfter, IsAnswerOf, IsFoundBy, IsFoundFurther, is_generated}
-use Rattle.ruby_answers.specs.Right.{IsProtocolRead, IsReadBy, IsRight, IsRightBy, IsRightGot, IsRightTo, IsRunAnswer, IsRunOf, Topologies, generated_files, plain_topologies, topologies_said, topology_read}
+use Rattle.ruby_answers.specs.declared.done.Answer.{Answer}
+use Rattle.ruby_answers.specs.declared.done.Answer.TheVariants.{Ran, Generated}
 use Rattle.ruby_answers.proofs.ReadsMade.{made_on}
 
 -- Runs as answers.

@@ -1,11 +1,11 @@
 -- The statuses of right answers, and what causes them.
 use Rattle.std.proofs.Common.{◌≡◌, ◌<◌, ◌⊎◌, ◌++◌, inl, inr, ℕ, Bool, true, false, Option, None, Some, List, [], ◌∷◌, if◌then◌else◌, refl, sym, ◌∙◌, ap, subst, arith}
 use Rattle.std.proofs.lemmas.Option.{same_Some}
-use Rattle.ruby_outside.specs.Files.{Files}
+use Rattle.ruby_outside.specs.Prelude.{Files}
 use Rattle.ruby_outside.specs.declared.library.Got.{Got}
 use Rattle.ruby_outside.specs.declared.library.Got.TheVariants as got
 use Rattle.slicc_ast.specs.declared.tree.item.Tree.{Tree}
-use Rattle.slicc_files.specs.Reads.{Read, AreGiven, MayBeGiven, file_limit}
+use Rattle.slicc_files.specs.Prelude.{Read, AreGiven, MayBeGiven, file_limit}
 use Rattle.slicc_files.specs.declared.gathered.Gathered.{Gathered}
 use Rattle.slicc_files.specs.declared.gathered.Gathered.TheVariants as gathered
 use Rattle.slicc_files.specs.declared.gathered.Source.{Source}
@@ -13,20 +13,16 @@ use Rattle.slicc_files.proofs.Told.{HasFailed, given_right}
 use Rattle.slicc_files.proofs.Ways.{IsLastFault, fault_failed, given_or_failed}
 use Rattle.slicc_front.specs.declared.answer.Front.{Front}
 use Rattle.slicc_front.specs.declared.answer.Front.TheVariants as front
-use Rattle.slicc_front.specs.Fronts.{IsFrontFor, IsFrontOf}
-use Rattle.slicc_front.specs.Fronts.IsFrontFor.{keeps_all, breaks_one}
+use Rattle.slicc_front.specs.Prelude.{IsFrontFor, IsFrontOf, keeps_all, breaks_one}
 use Rattle.run_journal.specs.declared.verdict.Verdict.{Verdict}
 use Rattle.run_journal.specs.declared.verdict.Verdict.TheVariants.{Passed, Quiet}
-use Rattle.ruby_answers.specs.Generated.{generated_name}
+use Rattle.ruby_answers.specs.Prelude.{generated_name, kept_of, status_of, verdict_status, IsOneOf, makes_run, statuses_of, IsAnswer, IsProtocolRead, IsReadBy, IsRight, IsRightBy, IsRightGot, IsRightOf, IsRightRun, IsRightText, IsRightTo, IsRunAnswer, IsSame, Topologies, generated_files, plain_topologies, topologies_said, topology_read}
 use Rattle.ruby_options.specs.declared.options.Command.{Command}
 use Rattle.ruby_options.specs.declared.options.Command.TheVariants.{Run, Plain, Check, Table, Code, Gen}
 use Rattle.ruby_options.specs.declared.options.Options.{Options}
 use Rattle.protocol_meaning.specs.declared.record.RunRecord.{RunRecord}
-use Rattle.ruby_answers.specs.declared.answer.Answer.{Answer}
-use Rattle.ruby_answers.specs.declared.answer.Answer.TheVariants.{Ran, Generated, Accepted, Tabled, Usage, Refused, Unfit, Absent, TooLarge, ReadFault}
-use Rattle.ruby_answers.specs.Answer.{kept_of, status_of, verdict_status}
-use Rattle.ruby_answers.specs.Headline.{IsOneOf, makes_run, statuses_of}
-use Rattle.ruby_answers.specs.Right.{IsAnswer, IsProtocolRead, IsReadBy, IsRight, IsRightBy, IsRightGot, IsRightOf, IsRightRun, IsRightText, IsRightTo, IsRunAnswer, IsSame, Topologies, generated_files, plain_topologies, topologies_said, topology_read}
+use Rattle.ruby_answers.specs.declared.done.Answer.{Answer}
+use Rattle.ruby_answers.specs.declared.done.Answer.TheVariants.{Ran, Generated, Accepted, Tabled, Usage, Refused, Unfit, Absent, TooLarge, ReadFault}
 use Rattle.ruby_answers.proofs.OneAnswer.{was_memory}
 use Rattle.ruby_answers.proofs.ReadsMade.{failed_first, failed_more, given_both, may_first, may_more, never_failed}
 

@@ -1,27 +1,20 @@
 -- The theorem about a call of the program, from what the call does.
 use Rattle.std.proofs.Common.{◌≡◌, ◌≢◌, ◌<◌, ◌⊎◌, inl, inr, ℕ, Bool, true, false, Option, None, Some, List, [], ◌∷◌, if◌then◌else◌, refl, sym, ◌∙◌, ap, subst, arith, IfSome, IsSome, IsSomeAnd}
-use Rattle.ruby_outside.specs.Faults.{Rose}
-use Rattle.ruby_outside.specs.Files.{Files, IsLawfulRead}
-use Rattle.ruby_outside.specs.Sink.{IsLawfulWrite, IsWritten}
+use Rattle.ruby_outside.specs.Prelude.{Rose, Files, IsLawfulRead, IsLawfulWrite, IsWritten}
 use Rattle.ruby_outside.specs.declared.library.Got.{Got}
 use Rattle.ruby_outside.specs.declared.sink.Wrote.{Wrote}
 use Rattle.slicc_ast.specs.declared.tree.item.Tree.{Tree}
-use Rattle.slicc_files.specs.Reads.{Read, AreGiven, MayBeGiven}
+use Rattle.slicc_files.specs.Prelude.{Read, AreGiven, MayBeGiven}
 use Rattle.slicc_files.proofs.Told.{HasFailed, all_read, failed_rose}
 use Rattle.trace_print.proofs.Written.{lines_written}
 use Rattle.ruby_options.specs.declared.options.Options.{Options}
-use Rattle.ruby_options.specs.Within.{IsWithin}
+use Rattle.ruby_options.specs.Prelude.{IsWithin}
 use Rattle.ruby_topology.specs.declared.topology.Topology.{Topology}
 use Rattle.protocol_meaning.specs.declared.record.RunRecord.{RunRecord}
-use Rattle.ruby_answers.specs.declared.answer.Answer.{Answer}
-use Rattle.ruby_answers.specs.declared.answer.Answer.TheVariants.{Usage, ReadFault}
+use Rattle.ruby_answers.specs.declared.done.Answer.{Answer}
+use Rattle.ruby_answers.specs.declared.done.Answer.TheVariants.{Usage, ReadFault}
 use Rattle.ruby_answers.specs.declared.done.Done.{Done}
-use Rattle.ruby_answers.specs.Answer.{status_of, kept_of, done_of, out_of_memory, verdict_status}
-use Rattle.ruby_answers.specs.Text.{lines_of, text_of}
-use Rattle.ruby_answers.specs.Call.{IsAnswered}
-use Rattle.ruby_answers.specs.Headline.{IsAsAsked, IsCaused, IsComplete, IsInvalidExactly, IsMade, IsMessageAccount, IsOneOf, IsTallied, IsTheorem, IsToMakeRun, IsVerdictStatus, IsWokenOnce, makes_run, statuses_of}
-use Rattle.ruby_answers.specs.Record.{IsWholeRun}
-use Rattle.ruby_answers.specs.Right.{IsAnswer, IsRight, IsRunOver}
+use Rattle.ruby_answers.specs.Prelude.{status_of, kept_of, done_of, out_of_memory, verdict_status, lines_of, text_of, IsAnswered, IsAsAsked, IsCaused, IsComplete, IsInvalidExactly, IsMade, IsMessageAccount, IsOneOf, IsTallied, IsTheorem, IsToMakeRun, IsVerdictStatus, IsWokenOnce, makes_run, statuses_of, IsWholeRun, IsAnswer, IsRight, IsRunOver}
 use Rattle.ruby_answers.proofs.Causes.{five_failed, low_kept, never_one, never_seven, none_usage, only_of, given_or_five, same_status, same_told, status_kept, two_asked, zero_makes_none}
 use Rattle.ruby_answers.proofs.OverFiles.{same_over}
 use Rattle.ruby_answers.proofs.RightRuns.{AreLawful, IsRunAsked, lawful_run, over_files, run_asked, run_makes, run_there_over}

@@ -1,7 +1,7 @@
 -- Lines that are put in several parts, one after the other.
 use Rattle.std.proofs.Common.{◌≡◌, ℕ, Bool, true, false, List, [], ◌++◌, if◌then◌else◌, refl, subst, sym, true≢false}
 use Rattle.ruby_outside.specs.declared.sink.Wrote.{Wrote}
-use Rattle.trace_print.specs.Pieces.{AreLinesPut, all_put}
+use Rattle.trace_print.specs.Prelude.{AreLinesPut, all_put}
 use Rattle.trace_print.proofs.Listing.{lines_on, lines_stopped}
 
 module _ {S : Type 0} (writes : S → List ℕ → Wrote → S → Type 0) where

@@ -1,17 +1,14 @@
 -- The runs that are made are those that the options ask for.
 use Rattle.std.proofs.Common.{◌≡◌, ℕ, Bool, true, false, List, Result, Ok, Err, IfOk, sym, subst}
-use Rattle.protocol_runs.specs.Alone.{IsAlone}
-use Rattle.random_tester.specs.State.{State}
-use Rattle.random_tester.specs.Turn.{tester_drive}
-use Rattle.sequencer.specs.PlainDriver.{plain_drive}
+use Rattle.protocol_runs.specs.Prelude.{IsAlone}
+use Rattle.random_tester.specs.Prelude.{State, tester_drive}
+use Rattle.sequencer.specs.Prelude.{plain_drive}
 use Rattle.slicc_ast.specs.declared.tree.item.Tree.{Tree}
 use Rattle.ruby_options.specs.declared.options.Options.{Options}
 use Rattle.ruby_topology.specs.declared.topology.Topology.{Topology}
 use Rattle.protocol_meaning.specs.declared.record.RunRecord.{RunRecord}
-use Rattle.ruby_world.specs.Records.{IsWholeRunBy, rules_in}
-use Rattle.ruby_answers.specs.Find.{IsRunIn}
-use Rattle.ruby_answers.specs.Headline.{IsByOneWorker}
-use Rattle.ruby_answers.specs.Record.{ByItsDriver, IsSoBy, IsWholeRun, OfDrivers, is_tested, tester_of}
+use Rattle.ruby_world.specs.Prelude.{IsWholeRunBy, rules_in}
+use Rattle.ruby_answers.specs.Prelude.{IsRunIn, IsByOneWorker, ByItsDriver, IsSoBy, IsWholeRun, OfDrivers, is_tested, tester_of}
 
 -- by the driver that these options ask for over this topology, and so by that of the record that has both
 by_its_own : (r : RunRecord) (t : Topology) (o : Options) (P : OfDrivers) → r.topology ≡ t → r.options ≡ o → IsSoBy (is_tested o.command) o t P → ByItsDriver r P

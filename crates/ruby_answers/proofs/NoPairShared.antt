@@ -2,14 +2,7 @@
 use Rattle.std.proofs.Common.{◌≡◌, ◌++◌, List, [], ◌∷◌, refl}
 use Rattle.slicc_ast.specs.declared.tree.item.Tree.{Tree}
 use Rattle.slicc_plan.specs.declared.broken.Broken.{Broken}
-use Rattle.slicc_plan.specs.BrokenMachines.{broken_machines}
-use Rattle.slicc_plan.specs.BodySizes.{large_bodies}
-use Rattle.slicc_plan.specs.CallsBetween.{call_circles}
-use Rattle.slicc_plan.specs.MachineParts.{missing_machine, missing_parts}
-use Rattle.slicc_plan.specs.Networks.{wrong_networks}
-use Rattle.slicc_plan.specs.ReadOnly.{reading_changes}
-use Rattle.slicc_plan.specs.StateFunctions.{wrong_state_functions}
-use Rattle.slicc_plan.specs.TwoTransitions.{shared_pairs}
+use Rattle.slicc_plan.specs.Prelude.{broken_machines, large_bodies, call_circles, missing_machine, missing_parts, wrong_networks, reading_changes, wrong_state_functions, shared_pairs}
 
 none_first : (bs cs : List Broken) → bs ++ cs ≡ [] → bs ≡ []
 none_first [] cs e = refl

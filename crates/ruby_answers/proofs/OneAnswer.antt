@@ -3,14 +3,14 @@ use Rattle.std.proofs.Common.{◌≡◌, ◌≢◌, ◌<◌, ◌≤◌, ◌⊎�
 use Rattle.ruby_outside.specs.declared.library.Got.{Got}
 use Rattle.ruby_outside.specs.declared.library.Got.TheVariants as got
 use Rattle.slicc_ast.specs.declared.tree.item.Tree.{Tree}
-use Rattle.slicc_files.specs.Reads.{Read, file_limit}
+use Rattle.slicc_files.specs.Prelude.{Read, file_limit}
 use Rattle.slicc_files.specs.declared.gathered.Gathered.{Gathered}
 use Rattle.slicc_files.specs.declared.gathered.Gathered.TheVariants as gathered
 use Rattle.slicc_front.specs.declared.answer.Front.{Front}
 use Rattle.slicc_front.specs.declared.answer.Front.TheVariants as front
-use Rattle.slicc_front.specs.Fronts.{IsFrontOf}
+use Rattle.slicc_front.specs.Prelude.{IsFrontOf}
 use Rattle.slicc_front.proofs.OneFront.{one_front}
-use Rattle.slicc_plan.specs.SymbolsOf.{symbols_of}
+use Rattle.slicc_plan.specs.Prelude.{symbols_of}
 use Rattle.slicc_plan.specs.declared.row.Row.{Row}
 use Rattle.ruby_options.specs.declared.options.Command.{Command}
 use Rattle.ruby_options.specs.declared.options.Command.TheVariants.{Run, Plain, Check, Table, Code, Gen}
@@ -18,9 +18,9 @@ use Rattle.ruby_options.specs.declared.options.Options.{Options}
 use Rattle.ruby_topology.specs.declared.topology.Topology.{Topology}
 use Rattle.ruby_topology.proofs.One.{never_refused, refusal_one, topology_one}
 use Rattle.protocol_meaning.specs.declared.record.RunRecord.{RunRecord}
-use Rattle.ruby_answers.specs.declared.answer.Answer.{Answer}
-use Rattle.ruby_answers.specs.declared.answer.Answer.TheVariants.{Ran, Generated, Accepted, Tabled, Usage, Refused, Unfit, Absent, TooLarge, ReadFault}
-use Rattle.ruby_answers.specs.Right.{IsMadeRun, IsRightBy, IsRightGot, IsRightOf, IsRightRead, IsRightText, IsRightTo, IsRunAnswer, IsSame, IsSameBeginning, IsUnfit, Topologies, plain_topologies, topologies_said, topology_read}
+use Rattle.ruby_answers.specs.declared.done.Answer.{Answer}
+use Rattle.ruby_answers.specs.declared.done.Answer.TheVariants.{Ran, Generated, Accepted, Tabled, Usage, Refused, Unfit, Absent, TooLarge, ReadFault}
+use Rattle.ruby_answers.specs.Prelude.{IsMadeRun, IsRightBy, IsRightGot, IsRightOf, IsRightRead, IsRightText, IsRightTo, IsRunAnswer, IsSame, IsSameBeginning, IsUnfit, Topologies, plain_topologies, topologies_said, topology_read}
 use Rattle.ruby_answers.proofs.OnePlain.{never_both, plain_one, refused_one}
 
 same_beginning : (r : RunRecord) → IsSameBeginning r r

@@ -2,10 +2,9 @@
 use Rattle.std.proofs.Common.{◌≡◌, ◌∙◌, ℕ, List, [], ◌∷◌, sym, subst, arith, true≢false, length, get_or, ext_get_or}
 use Rattle.ctl_face.specs.declared.routes.Routes.{Routes}
 use Rattle.ruby_symbols.specs.declared.symbols.Symbols.{Symbols}
-use Rattle.ruby_topology.specs.declared.statement.Network.TheVariants.{PointToPoint}
+use Rattle.ruby_topology.specs.declared.forms.Network.TheVariants.{PointToPoint}
 use Rattle.ruby_topology.specs.declared.topology.Topology.{Topology}
-use Rattle.ruby_topology.specs.Paths.{AreRows, IsRow}
-use Rattle.ruby_topology.specs.Topology.{IsPlainOf, IsRefusedPlain}
+use Rattle.ruby_topology.specs.Prelude.{AreRows, IsRow, IsPlainOf, IsRefusedPlain}
 
 row_one : (total from : ℕ) (r s : List ℕ) → IsRow (PointToPoint 1) [] total from r → IsRow (PointToPoint 1) [] total from s → r ≡ s
 row_one total from r s is also =

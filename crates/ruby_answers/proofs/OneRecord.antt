@@ -3,33 +3,21 @@ use Rattle.std.proofs.Common.{◌≡◌, ℕ, Bool, true, false, List, [], ◌�
 use Rattle.std.proofs.lemmas.Option.{same_Some}
 use Rattle.run_journal.specs.declared.entry.Entry.{Entry}
 use Rattle.run_journal.specs.declared.event.Event.{Event}
-use Rattle.run_journal.specs.AreFinals.{AreFinals}
-use Rattle.run_journal.specs.Tally.{tally}
+use Rattle.run_journal.specs.Prelude.{AreFinals, tally}
 use Rattle.run_journal.proofs.FinalStates.{same_finals}
-use Rattle.protocol_runs.specs.Account.{account}
-use Rattle.protocol_runs.specs.Alone.{IsAlone}
-use Rattle.protocol_runs.specs.RunRules.{Rules}
-use Rattle.protocol_runs.specs.Run.{IsRun}
-use Rattle.protocol_runs.specs.World.{World}
+use Rattle.protocol_runs.specs.Prelude.{account, IsAlone, Rules, IsRun, World, rules}
 use Rattle.ruby_value.specs.declared.message.Message.{Message}
-use Rattle.ctl_face.specs.Ctl.{Ctl}
+use Rattle.ctl_face.specs.Prelude.{Ctl}
 use Rattle.slicc_ast.specs.declared.tree.item.Tree.{Tree}
-use Rattle.sequencer.specs.Drive.{Drive}
-use Rattle.sequencer.specs.PlainDriver.{plain_drive, plain_needs}
-use Rattle.sequencer.specs.Seats.{Seat}
-use Rattle.random_tester.specs.Turn.{tester_drive, tester_needs}
+use Rattle.sequencer.specs.Prelude.{Drive, plain_drive, plain_needs, Seat}
+use Rattle.random_tester.specs.Prelude.{tester_drive, tester_needs}
 use Rattle.ruby_options.specs.declared.options.Options.{Options}
 use Rattle.ruby_topology.specs.declared.topology.Topology.{Topology}
-use Rattle.protocol_meaning.specs.Meaning.{meaning_of}
-use Rattle.protocol_meaning.specs.Setting.{setting_of}
-use Rattle.protocol_runs.specs.Rules.{rules}
+use Rattle.protocol_meaning.specs.Prelude.{meaning_of, setting_of, IsWholeRunBy, rules_in, setting_in}
 use Rattle.protocol_runs.proofs.Driver.{IsDriver}
 use Rattle.protocol_runs.proofs.Lawful.{one_end, one_history}
 use Rattle.protocol_meaning.specs.declared.record.RunRecord.{RunRecord}
-use Rattle.protocol_meaning.specs.Records.{IsWholeRunBy, rules_in, setting_in}
-use Rattle.ruby_answers.specs.Headline.{IsByOneWorker}
-use Rattle.ruby_answers.specs.Record.{IsSoBy, IsWholeRun, is_tested, tester_of}
-use Rattle.ruby_answers.specs.Right.{IsSameBeginning}
+use Rattle.ruby_answers.specs.Prelude.{IsByOneWorker, IsSoBy, IsWholeRun, is_tested, tester_of, IsSameBeginning}
 use Rattle.ruby_answers.proofs.WholeRuns.{IsLawfulRun, one_seat, plain_is, setting_is, tester_is}
 
 record_same : (r q : RunRecord) → IsSameBeginning r q → r.history ≡ q.history → r.journal ≡ q.journal → r.finals ≡ q.finals → r.account ≡ q.account

@@ -1,27 +1,26 @@
 -- Over files there is one answer: they are read in one way.
 use Rattle.std.proofs.Common.{◌≡◌, ◌≢◌, ◌++◌, ℕ, Option, None, Some, List, [], ◌∷◌, sym, ◌∙◌, ap, subst}
-use Rattle.ruby_outside.specs.Files.{Files}
+use Rattle.ruby_outside.specs.Prelude.{Files}
 use Rattle.ruby_outside.specs.declared.library.Got.{Got}
 use Rattle.ruby_outside.specs.declared.library.Got.TheVariants as got
 use Rattle.slicc_ast.specs.declared.tree.item.Tree.{Tree}
-use Rattle.slicc_files.specs.Reads.{Read, AreGiven, given}
+use Rattle.slicc_files.specs.Prelude.{Read, AreGiven, given}
 use Rattle.slicc_files.specs.declared.gathered.Gathered.{Gathered}
 use Rattle.slicc_files.specs.declared.gathered.Gathered.TheVariants as gathered
 use Rattle.slicc_files.proofs.OneGathering.{DoAgree, agree_given, agree_self, one_gathering, one_over_files}
 use Rattle.slicc_front.specs.declared.answer.Front.{Front}
 use Rattle.slicc_front.specs.declared.answer.Front.TheVariants as front
-use Rattle.slicc_front.specs.Fronts.{IsFrontOf}
+use Rattle.slicc_front.specs.Prelude.{IsFrontOf}
 use Rattle.slicc_front.proofs.OneFront.{one_front}
-use Rattle.slicc_plan.specs.SymbolsOf.{symbols_of}
-use Rattle.ruby_answers.specs.Generated.{generated_name}
+use Rattle.slicc_plan.specs.Prelude.{symbols_of}
+use Rattle.ruby_answers.specs.Prelude.{generated_name, IsAnswer, IsPlanRead, IsProtocolRead, IsReadBy, IsRight, IsRightOf, IsRightRun, IsRunOver, IsSame, IsToRunBy, IsTopologyRead, generated_files, topology_read}
 use Rattle.ruby_options.specs.declared.options.Command.{Command}
 use Rattle.ruby_options.specs.declared.options.Command.TheVariants.{Run, Plain, Check, Table, Code, Gen}
 use Rattle.ruby_options.specs.declared.options.Options.{Options}
 use Rattle.ruby_topology.specs.declared.topology.Topology.{Topology}
-use Rattle.ruby_topology.specs.Topology.{IsTopologyOf}
+use Rattle.ruby_topology.specs.Prelude.{IsTopologyOf}
 use Rattle.ruby_topology.proofs.One.{topology_one}
-use Rattle.ruby_answers.specs.declared.answer.Answer.{Answer}
-use Rattle.ruby_answers.specs.Right.{IsAnswer, IsPlanRead, IsProtocolRead, IsReadBy, IsRight, IsRightOf, IsRightRun, IsRunOver, IsSame, IsToRunBy, IsTopologyRead, generated_files, topology_read}
+use Rattle.ruby_answers.specs.declared.done.Answer.{Answer}
 use Rattle.ruby_answers.proofs.OneAnswer.{DoGiveSame, same_of, same_self, was_memory, was_plan}
 use Rattle.ruby_answers.proofs.OnePlain.{plain_one}
 use Rattle.ruby_answers.proofs.ReadsMade.{agree_first, given_first, given_more, last_same}

@@ -1,9 +1,9 @@
 -- Reads of which the first are a protocol's, and those after them.
 use Rattle.std.proofs.Common.{◌≡◌, ◌++◌, ◌⊎◌, inl, inr, ℕ, Option, None, Some, Bool, true, false, if◌then◌else◌, List, [], ◌∷◌, length, refl, sym, ◌∙◌, ap, subst, nat_lt}
-use Rattle.ruby_outside.specs.Files.{Files, bytes_of, got_of}
+use Rattle.ruby_outside.specs.Prelude.{Files, bytes_of, got_of}
 use Rattle.ruby_outside.specs.declared.library.Got.{Got}
 use Rattle.ruby_outside.specs.declared.library.Got.TheVariants as got
-use Rattle.slicc_files.specs.Reads.{Read, AreGiven, AreMade, MayBeGiven, file_limit, given, given_for}
+use Rattle.slicc_files.specs.Prelude.{Read, AreGiven, AreMade, MayBeGiven, file_limit, given, given_for}
 use Rattle.slicc_files.proofs.OneGathering.{DoAgree}
 use Rattle.slicc_files.proofs.Told.{HasFailed}
 

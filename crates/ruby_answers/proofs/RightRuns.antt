@@ -1,40 +1,33 @@
 -- The run of a right answer: what it is a run of, what was read for it, and that the laws of runs hold of it.
 use Rattle.std.proofs.Common.{◌≡◌, ◌≤◌, ◌++◌, ◌⊎◌, inl, inr, ℕ, true, Option, None, Some, List, [], ◌∷◌, refl, sym, ◌∙◌, ap, subst, arith, IfSome}
 use Rattle.std.proofs.lemmas.Option.{same_Some}
-use Rattle.ruby_outside.specs.Files.{Files}
+use Rattle.ruby_outside.specs.Prelude.{Files}
 use Rattle.ruby_outside.specs.declared.library.Got.{Got}
 use Rattle.ruby_outside.specs.declared.library.Got.TheVariants as got
 use Rattle.slicc_ast.specs.declared.tree.item.Tree.{Tree}
-use Rattle.slicc_files.specs.Reads.{Read, AreGiven, given}
+use Rattle.slicc_files.specs.Prelude.{Read, AreGiven, given}
 use Rattle.slicc_files.specs.declared.gathered.Gathered.{Gathered}
 use Rattle.slicc_files.specs.declared.gathered.Gathered.TheVariants as gathered
 use Rattle.slicc_files.specs.declared.gathered.Source.{Source}
 use Rattle.slicc_front.specs.declared.answer.Front.{Front}
 use Rattle.slicc_front.specs.declared.answer.Front.TheVariants as front
-use Rattle.slicc_front.specs.Fronts.{IsFrontFor, IsFrontOf}
-use Rattle.slicc_front.specs.Fronts.IsFrontFor.{keeps_all, breaks_one}
+use Rattle.slicc_front.specs.Prelude.{IsFrontFor, IsFrontOf, keeps_all, breaks_one}
 use Rattle.slicc_front.proofs.OneFront.{one_front}
-use Rattle.slicc_plan.specs.AllRules.{IsAccepted}
-use Rattle.slicc_plan.specs.SymbolsOf.{symbols_of}
+use Rattle.slicc_plan.specs.Prelude.{IsAccepted, symbols_of}
 use Rattle.ruby_options.specs.declared.options.Command.{Command}
 use Rattle.ruby_options.specs.declared.options.Command.TheVariants.{Run, Plain, Check, Table, Code, Gen}
 use Rattle.ruby_options.specs.declared.options.Options.{Options}
-use Rattle.ruby_options.specs.Within.{IsWithin}
+use Rattle.ruby_options.specs.Prelude.{IsWithin}
 use Rattle.ruby_topology.specs.declared.topology.Topology.{Topology}
-use Rattle.ruby_topology.specs.Topology.{IsPlainOf, IsTopologyOf}
+use Rattle.ruby_topology.specs.Prelude.{IsPlainOf, IsTopologyOf}
 use Rattle.ruby_topology.proofs.One.{never_refused}
-use Rattle.ctl_face.specs.Fits.{last_cycle}
-use Rattle.protocol_meaning.specs.FitsPlan.{FitsPlan}
-use Rattle.protocol_meaning.specs.Meaning.{meaning_of}
-use Rattle.protocol_runs.specs.Meaning.{IsMeaning}
+use Rattle.ctl_face.specs.Prelude.{last_cycle}
+use Rattle.protocol_meaning.specs.Prelude.{FitsPlan, meaning_of}
+use Rattle.protocol_runs.specs.Prelude.{IsMeaning}
 use Rattle.protocol_meaning.specs.declared.record.RunRecord.{RunRecord}
-use Rattle.ruby_answers.specs.declared.answer.Answer.{Answer}
-use Rattle.ruby_answers.specs.declared.answer.Answer.TheVariants.{Ran, Generated}
-use Rattle.ruby_answers.specs.Answer.{kept_of}
-use Rattle.ruby_answers.specs.Find.{IsAloneAnswer}
-use Rattle.ruby_answers.specs.Headline.{IsByOneWorker, makes_run}
-use Rattle.ruby_answers.specs.Record.{IsWholeRun}
-use Rattle.ruby_answers.specs.Right.{IsAnswer, IsPlanRead, IsRight, IsRightBy, IsRightGot, IsRightOf, IsRightRead, IsRightRun, IsRightText, IsRightTo, IsRunAnswer, IsRunOf, IsRunOver, IsSame, IsSameBeginning, IsToRunBy, IsTopologyRead, Topologies, plain_topologies, topologies_said, topology_read}
+use Rattle.ruby_answers.specs.declared.done.Answer.{Answer}
+use Rattle.ruby_answers.specs.declared.done.Answer.TheVariants.{Ran, Generated}
+use Rattle.ruby_answers.specs.Prelude.{kept_of, IsAloneAnswer, IsByOneWorker, makes_run, IsWholeRun, IsAnswer, IsPlanRead, IsRight, IsRightBy, IsRightGot, IsRightOf, IsRightRead, IsRightRun, IsRightText, IsRightTo, IsRunAnswer, IsRunOf, IsRunOver, IsSame, IsSameBeginning, IsToRunBy, IsTopologyRead, Topologies, plain_topologies, topologies_said, topology_read}
 use Rattle.ruby_answers.proofs.OnePlain.{never_both}
 use Rattle.ruby_answers.proofs.OneRecord.{one_record}
 use Rattle.ruby_answers.proofs.OverFiles.{first_agree, gave, read_once, same_by, same_over}

@@ -4,12 +4,10 @@ use Rattle.std.proofs.Math.Seq.{take-suc}
 use Rattle.std.proofs.lemmas.List.{flat_map_more, map-append}
 use Rattle.slicc_ast.specs.declared.tree.machine.Machine.{Machine}
 use Rattle.slicc_plan.specs.declared.row.Row.{Row}
-use Rattle.slicc_plan.specs.Counts.{numbers_below}
-use Rattle.slicc_plan.specs.Limits.{event_members, state_members}
-use Rattle.slicc_plan.specs.Machines.{rows}
+use Rattle.slicc_plan.specs.Prelude.{numbers_below, event_members, state_members, rows}
 use Rattle.machine_table.specs.declared.table.Tables.{Tables}
-use Rattle.machine_table.specs.TablesOf.{rows_of_found}
-use Rattle.ruby_answers.specs.Tables.{answered, answered_in_state, machine_rows}
+use Rattle.machine_table.specs.Prelude.{rows_of_found}
+use Rattle.ruby_answers.specs.Prelude.{answered, answered_in_state, machine_rows}
 
 -- one more number
 pub one_more : {A : Type 0} (f : ℕ → List A) (before : List A) (n : ℕ) → (before ++ flat_map f (numbers_below n)) ++ f n ≡ before ++ flat_map f (numbers_below (n + 1))

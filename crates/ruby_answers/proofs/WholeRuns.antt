@@ -1,29 +1,18 @@
 -- What follows for a whole run, as the clauses of the top call tell it, by the driver that its options ask for.
 use Rattle.std.proofs.Common.{◌≡◌, ◌≤◌, ◌+◌, ℕ, Bool, true, false, List, refl, sym, subst, arith}
 use Rattle.run_journal.specs.declared.summary.Account.{Account}
-use Rattle.protocol_runs.specs.InvalidExactly.{InvalidExactly}
-use Rattle.protocol_runs.specs.WakesOnce.{WakesOnce}
-use Rattle.ctl_face.specs.Fits.{last_cycle}
-use Rattle.sequencer.specs.Drive.{Drive}
-use Rattle.sequencer.specs.PlainDriver.{plain_drive, plain_needs}
-use Rattle.sequencer.specs.PlainLaw.{plain_lawful}
-use Rattle.sequencer.specs.Seats.{Seat}
-use Rattle.random_tester.specs.Law.{tester_lawful}
-use Rattle.random_tester.specs.State.{State}
-use Rattle.random_tester.specs.Turn.{tester_drive, tester_needs}
+use Rattle.protocol_runs.specs.Prelude.{InvalidExactly, WakesOnce, IsSetting, IsMeaning}
+use Rattle.ctl_face.specs.Prelude.{last_cycle}
+use Rattle.sequencer.specs.Prelude.{Drive, plain_drive, plain_needs, plain_lawful, Seat}
+use Rattle.random_tester.specs.Prelude.{tester_lawful, State, tester_drive, tester_needs}
 use Rattle.ruby_options.specs.declared.options.Options.{Options}
 use Rattle.ruby_topology.specs.declared.topology.Topology.{Topology}
-use Rattle.protocol_meaning.specs.FitsPlan.{FitsPlan}
-use Rattle.protocol_meaning.specs.Meaning.{meaning_of}
+use Rattle.protocol_meaning.specs.Prelude.{FitsPlan, meaning_of, IsWholeRunBy, rules_in, setting_in}
 use Rattle.protocol_meaning.proofs.Settings.{is_setting_of_one}
-use Rattle.protocol_runs.specs.IsSetting.{IsSetting}
-use Rattle.protocol_runs.specs.Meaning.{IsMeaning}
 use Rattle.protocol_runs.proofs.Driver.{IsDriver}
 use Rattle.protocol_runs.proofs.Lawful.{accounted, adds_up, invalid_exactly, wakes_once}
 use Rattle.protocol_meaning.specs.declared.record.RunRecord.{RunRecord}
-use Rattle.protocol_meaning.specs.Records.{IsWholeRunBy, rules_in, setting_in}
-use Rattle.ruby_answers.specs.Headline.{IsAccountBy, IsInvalidExactly, IsMessageAccount, IsTallied, IsWokenOnce}
-use Rattle.ruby_answers.specs.Record.{IsSoBy, IsWholeRun, OfDrivers, is_tested, tester_of}
+use Rattle.ruby_answers.specs.Prelude.{IsAccountBy, IsInvalidExactly, IsMessageAccount, IsTallied, IsWokenOnce, IsSoBy, IsWholeRun, OfDrivers, is_tested, tester_of}
 
 -- the laws of runs hold of a record's run where its topology fits its protocol and its bound on cycles is that of all runs
 pub record IsLawfulRun (r : RunRecord) : Type 0 where

@@ -3,8 +3,8 @@ use Rattle.std.specs.Prelude.{ℕ, Bool, Option, None, Some, if◌then◌else◌
 use Rattle.run_journal.specs.declared.verdict.Verdict.{Verdict}
 use Rattle.run_journal.specs.declared.verdict.Verdict.TheVariants.{Passed, Quiet}
 use Rattle.protocol_meaning.specs.declared.record.RunRecord.{RunRecord}
-use Rattle.ruby_answers.specs.declared.answer.Answer.{Answer}
-use Rattle.ruby_answers.specs.declared.answer.Answer.TheVariants.{Ran, Generated, Accepted, Tabled, Usage, Refused, Unfit, Absent, TooLarge, ReadFault}
+use Rattle.ruby_answers.specs.declared.done.Answer.{Answer}
+use Rattle.ruby_answers.specs.declared.done.Answer.TheVariants.{Ran, Generated, Accepted, Tabled, Usage, Refused, Unfit, Absent, TooLarge, ReadFault}
 use Rattle.ruby_answers.specs.declared.done.Done.{Done}
 
 -- 0 for a run whose checks have passed or that ended quietly, and 1 for any other

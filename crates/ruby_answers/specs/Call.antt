@@ -6,15 +6,15 @@ use Rattle.std.specs.Prelude.{◌≡◌, ◌⊎◌, ◌++◌, ℕ, Bool, Option,
 use Rattle.ruby_outside.specs.declared.library.Got.{Got}
 use Rattle.ruby_outside.specs.declared.sink.Wrote.{Wrote}
 use Rattle.slicc_ast.specs.declared.tree.item.Tree.{Tree}
-use Rattle.slicc_files.specs.Reads.{Read, AreMade, AreOfOneNameEach}
+use Rattle.slicc_files.specs.Prelude.{Read, AreMade, AreOfOneNameEach}
 use Rattle.slicc_files.specs.declared.gathered.Gathered.TheVariants.{NoMemory}
 use Rattle.ruby_options.specs.declared.options.Command.TheVariants.{Run}
 use Rattle.ruby_options.specs.declared.options.Options.{Options}
-use Rattle.ruby_answers.specs.declared.answer.Answer.{Answer}
+use Rattle.ruby_answers.specs.declared.done.Answer.{Answer}
 use Rattle.ruby_answers.specs.declared.done.Done.{Done}
 use Rattle.ruby_answers.specs.Answer.{done_of, out_of_memory}
 use Rattle.ruby_answers.specs.Text.{lines_of}
-use Rattle.trace_print.specs.Pieces.{AreLinesPut}
+use Rattle.trace_print.specs.Prelude.{AreLinesPut}
 use Rattle.ruby_answers.specs.Right.{IsPlanRead, IsProtocolRead, IsRight, topology_read}
 
 -- the protocol's files were read, which keep all rules, and then the topology's

@@ -2,17 +2,17 @@
 use Rattle.std.specs.Prelude.{◌≡◌, ℕ, Bool, true, false, Result, Ok, Err, Some, List, [], IfOk, IfSome}
 use Rattle.ruby_outside.specs.declared.library.Got.{Got}
 use Rattle.slicc_ast.specs.declared.tree.item.Tree.{Tree}
-use Rattle.slicc_files.specs.Reads.{Read, AreMade}
+use Rattle.slicc_files.specs.Prelude.{Read, AreMade}
 use Rattle.slicc_front.specs.declared.answer.Front.{Front}
 use Rattle.slicc_front.specs.declared.answer.Front.TheVariants as front
-use Rattle.ruby_answers.specs.declared.answer.Answer.{Answer}
-use Rattle.ruby_answers.specs.declared.answer.Answer.TheVariants.{Unfit}
+use Rattle.ruby_answers.specs.declared.done.Answer.{Answer}
+use Rattle.ruby_answers.specs.declared.done.Answer.TheVariants.{Unfit}
 use Rattle.ruby_answers.specs.Answer.{kept_of}
 use Rattle.ruby_options.specs.declared.options.Command.{Command}
 use Rattle.ruby_options.specs.declared.options.Command.TheVariants.{Gen}
 use Rattle.ruby_options.specs.declared.options.Options.{Options}
-use Rattle.ruby_topology.specs.declared.rules.TopoFault.{TopoFault}
-use Rattle.ruby_topology.specs.declared.rules.TopoFault.TheVariants.{Line, NoMemory}
+use Rattle.ruby_topology.specs.declared.forms.TopoFault.{TopoFault}
+use Rattle.ruby_topology.specs.declared.forms.TopoFault.TheVariants.{Line, NoMemory}
 use Rattle.ruby_topology.specs.declared.topology.Topology.{Topology}
 use Rattle.protocol_meaning.specs.declared.record.RunRecord.{RunRecord}
 use Rattle.ruby_answers.specs.Call.{IsBeginning, IsEachOnce, IsTopologyAtMost}

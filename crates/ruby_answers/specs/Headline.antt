@@ -7,27 +7,21 @@
 use Rattle.std.specs.Prelude.{◌≡◌, ◌+◌, ◌≢◌, ◌⊎◌, ℕ, Bool, true, false, Option, None, Some, List, [], ◌∷◌, IfSome, IsSome, IsSomeAnd}
 use Rattle.std.specs.Bool.{OnTrue, OnFalse}
 use Rattle.std.specs.Option.{ForSome}
-use Rattle.ruby_outside.specs.Files.{Files}
-use Rattle.ruby_outside.specs.Sink.{grown, IsCutOff}
+use Rattle.ruby_outside.specs.Prelude.{Files, grown, IsCutOff}
 use Rattle.slicc_ast.specs.declared.tree.item.Tree.{Tree}
-use Rattle.slicc_files.specs.Reads.{Read, MayBeGiven}
-use Rattle.run_journal.specs.Tally.{tally}
-use Rattle.protocol_runs.specs.Account.{IsAccounted}
-use Rattle.protocol_runs.specs.Alone.{IsAlone}
-use Rattle.protocol_runs.specs.InvalidExactly.{InvalidExactly}
-use Rattle.protocol_runs.specs.WakesOnce.{WakesOnce}
-use Rattle.protocol_runs.specs.World.{World}
-use Rattle.ctl_face.specs.Ctl.{Ctl}
-use Rattle.sequencer.specs.Drive.{Drive}
-use Rattle.sequencer.specs.Seats.{Seat}
+use Rattle.slicc_files.specs.Prelude.{Read, MayBeGiven}
+use Rattle.run_journal.specs.Prelude.{tally}
+use Rattle.protocol_runs.specs.Prelude.{IsAccounted, IsAlone, InvalidExactly, WakesOnce, World}
+use Rattle.ctl_face.specs.Prelude.{Ctl}
+use Rattle.sequencer.specs.Prelude.{Drive, Seat}
 use Rattle.ruby_options.specs.declared.options.Command.{Command}
 use Rattle.ruby_options.specs.declared.options.Command.TheVariants.{Run, Plain, Gen}
 use Rattle.ruby_options.specs.declared.options.Options.{Options}
 use Rattle.ruby_topology.specs.declared.topology.Topology.{Topology}
 use Rattle.protocol_meaning.specs.declared.record.RunRecord.{RunRecord}
-use Rattle.protocol_meaning.specs.Records.{IsRecordOf, rules_in}
-use Rattle.ruby_answers.specs.declared.answer.Answer.{Answer}
-use Rattle.ruby_answers.specs.declared.answer.Answer.TheVariants.{Ran, Generated, ReadFault}
+use Rattle.protocol_meaning.specs.Prelude.{IsRecordOf, rules_in}
+use Rattle.ruby_answers.specs.declared.done.Answer.{Answer}
+use Rattle.ruby_answers.specs.declared.done.Answer.TheVariants.{Ran, Generated, ReadFault}
 use Rattle.ruby_answers.specs.declared.done.Done.{Done}
 use Rattle.ruby_answers.specs.Answer.{status_of, kept_of, done_of, out_of_memory, verdict_status}
 use Rattle.ruby_answers.specs.Text.{text_of}

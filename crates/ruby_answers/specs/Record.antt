@@ -3,17 +3,14 @@
 -- actor's words; for any other run it is the plain driver, with its number of requests. What a whole run by a driver is doesn't
 -- stand here.
 use Rattle.std.specs.Prelude.{ℕ, Bool, true, false, List, length}
-use Rattle.random_tester.specs.State.{State, made}
-use Rattle.random_tester.specs.Turn.{tester_drive}
+use Rattle.random_tester.specs.Prelude.{State, made, tester_drive}
 use Rattle.ruby_options.specs.declared.options.Command.{Command}
 use Rattle.ruby_options.specs.declared.options.Command.TheVariants.{Run}
 use Rattle.ruby_options.specs.declared.options.Options.{Options}
 use Rattle.ruby_topology.specs.declared.topology.Topology.{Topology}
 use Rattle.protocol_meaning.specs.declared.record.RunRecord.{RunRecord}
-use Rattle.protocol_meaning.specs.Records.{IsWholeRunBy}
-use Rattle.sequencer.specs.Drive.{Drive}
-use Rattle.sequencer.specs.PlainDriver.{plain_drive}
-use Rattle.sequencer.specs.Seats.{Seat}
+use Rattle.protocol_meaning.specs.Prelude.{IsWholeRunBy}
+use Rattle.sequencer.specs.Prelude.{Drive, plain_drive, Seat}
 
 -- what may be said by a driver of any type: by what it does at its seats in a cycle, and by the driver as a run begins with it
 abbrev pub OfDrivers : Type 1

@@ -7,27 +7,25 @@
 -- may go another way than another of the same beginning. All this is this project's own.
 use Rattle.std.specs.Prelude.{◌≡◌, ◌≢◌, ◌⊎◌, ◌<◌, ◌≤◌, ◌++◌, ℕ, Option, None, Some, List, [], ◌∷◌, length}
 use Rattle.ruby_answers.specs.Generated.{generated_name, generated_text}
-use Rattle.ruby_outside.specs.Files.{Files}
+use Rattle.ruby_outside.specs.Prelude.{Files}
 use Rattle.ruby_outside.specs.declared.library.Got.{Got}
 use Rattle.ruby_outside.specs.declared.library.Got.TheVariants as got
 use Rattle.slicc_ast.specs.declared.tree.item.Tree.{Tree}
-use Rattle.slicc_files.specs.Gathering.{IsGatheredFrom, IsGatheredOver}
-use Rattle.slicc_files.specs.Reads.{Read, AreGiven, file_limit}
+use Rattle.slicc_files.specs.Prelude.{IsGatheredFrom, IsGatheredOver, Read, AreGiven, file_limit}
 use Rattle.slicc_files.specs.declared.gathered.Gathered.{Gathered}
 use Rattle.slicc_front.specs.declared.answer.Front.{Front}
 use Rattle.slicc_front.specs.declared.answer.Front.TheVariants as front
-use Rattle.slicc_front.specs.Fronts.{IsFrontOf}
-use Rattle.slicc_plan.specs.Counts.{counts_of}
-use Rattle.slicc_plan.specs.SymbolsOf.{symbols_of}
+use Rattle.slicc_front.specs.Prelude.{IsFrontOf}
+use Rattle.slicc_plan.specs.Prelude.{counts_of, symbols_of}
 use Rattle.slicc_plan.specs.declared.row.Row.{Row}
 use Rattle.ruby_options.specs.declared.options.Command.{Command}
 use Rattle.ruby_options.specs.declared.options.Command.TheVariants.{Run, Plain, Check, Table, Code, Gen}
 use Rattle.ruby_options.specs.declared.options.Options.{Options}
 use Rattle.ruby_topology.specs.declared.topology.Topology.{Topology}
-use Rattle.ruby_topology.specs.Topology.{IsPlainOf, IsRefused, IsRefusedPlain, IsTopologyOf}
+use Rattle.ruby_topology.specs.Prelude.{IsPlainOf, IsRefused, IsRefusedPlain, IsTopologyOf}
 use Rattle.protocol_meaning.specs.declared.record.RunRecord.{RunRecord}
-use Rattle.ruby_answers.specs.declared.answer.Answer.{Answer}
-use Rattle.ruby_answers.specs.declared.answer.Answer.TheVariants.{Ran, Generated, Accepted, Tabled, Usage, Refused, Unfit, Absent, TooLarge, ReadFault}
+use Rattle.ruby_answers.specs.declared.done.Answer.{Answer}
+use Rattle.ruby_answers.specs.declared.done.Answer.TheVariants.{Ran, Generated, Accepted, Tabled, Usage, Refused, Unfit, Absent, TooLarge, ReadFault}
 use Rattle.ruby_answers.specs.Tables.{AreTableRows}
 use Rattle.ruby_answers.specs.Record.{IsWholeRun}
 

@@ -5,12 +5,9 @@ use Rattle.slicc_ast.specs.declared.tree.item.Tree.{Tree}
 use Rattle.slicc_ast.specs.declared.tree.machine.Machine.{Machine}
 use Rattle.slicc_plan.specs.declared.row.Row.{Row}
 use Rattle.slicc_plan.specs.Buffers.{listed}
-use Rattle.slicc_plan.specs.Counts.{numbers_below}
-use Rattle.slicc_plan.specs.Declarations.{machines_of}
-use Rattle.slicc_plan.specs.Limits.{event_members, state_members}
-use Rattle.slicc_plan.specs.Machines.{rows}
+use Rattle.slicc_plan.specs.Prelude.{numbers_below, machines_of, event_members, state_members, rows}
 use Rattle.machine_table.specs.declared.table.Tables.{Tables}
-use Rattle.machine_table.specs.Answers.{answer}
+use Rattle.machine_table.specs.Prelude.{answer}
 
 abbrev pub rows_in_state : Machine → ℕ → List Row
 rows_in_state m state = flat_map (rows m state) (numbers_below (length (event_members m)))

@@ -11,17 +11,11 @@ use Rattle.slicc_ast.specs.declared.tree.item.Tree.{Tree}
 use Rattle.slicc_files.specs.declared.gathered.Refused.{Refused as Refusal}
 use Rattle.slicc_plan.specs.declared.row.Counts.{Counts}
 use Rattle.slicc_plan.specs.declared.row.Row.{Row}
-use Rattle.slicc_plan.specs.Counts.{counts_of}
-use Rattle.slicc_plan.specs.SymbolsOf.{symbols_of}
-use Rattle.slicc_plan.specs.SymbolsOfMachines.{numbered_from}
-use Rattle.trace_print.specs.Ends.{rest_lines, verdict_words}
-use Rattle.trace_print.specs.Entries.{entry_lines}
-use Rattle.trace_print.specs.Lines.{line_of, numbered, place}
-use Rattle.trace_print.specs.Names.{controller_machine, state_word}
-use Rattle.trace_print.specs.Rows.{row_lines}
+use Rattle.slicc_plan.specs.Prelude.{counts_of, symbols_of, numbered_from}
+use Rattle.trace_print.specs.Prelude.{rest_lines, verdict_words, entry_lines, line_of, numbered, place, controller_machine, state_word, row_lines}
 use Rattle.protocol_meaning.specs.declared.record.RunRecord.{RunRecord}
-use Rattle.ruby_answers.specs.declared.answer.Answer.{Answer}
-use Rattle.ruby_answers.specs.declared.answer.Answer.TheVariants.{Ran, Generated, Accepted, Tabled, Usage, Refused, Unfit, Absent, TooLarge, ReadFault}
+use Rattle.ruby_answers.specs.declared.done.Answer.{Answer}
+use Rattle.ruby_answers.specs.declared.done.Answer.TheVariants.{Ran, Generated, Accepted, Tabled, Usage, Refused, Unfit, Absent, TooLarge, ReadFault}
 
 -- Runs.
 

@@ -1,12 +1,9 @@
 // The answer to options, found before anything is written.
 ghost use Rattle.std.specs.Prelude.{◌≡◌, ◌≢◌, [], Some, IfOk, IsUtf8, false, true};
-ghost use Rattle.ruby_answers.specs.Find.{IsAfter, IsAloneAnswer, IsAnswerOf, IsFoundBy, IsFoundFurther, is_generated};
-ghost use Rattle.ruby_answers.specs.Headline.{IsByOneWorker};
-ghost use Rattle.ruby_answers.specs.Right.{IsRight, IsRightBy, IsRightGot, IsRightTo, IsTable, generated_files};
-ghost use Rattle.ruby_answers.specs.Generated.{generated_name, generated_text};
-ghost use Rattle.ruby_options.specs.Within.{IsWithin};
+ghost use Rattle.ruby_answers.specs.Prelude.{IsAfter, IsAloneAnswer, IsAnswerOf, IsFoundBy, IsFoundFurther, is_generated, IsByOneWorker, IsRight, IsRightBy, IsRightGot, IsRightTo, IsTable, generated_files, generated_name, generated_text};
+ghost use Rattle.ruby_options.specs.Prelude.{IsWithin};
 ghost use Rattle.ruby_options.specs.declared.options.Command.TheVariants.{Code, Run};
-ghost use Rattle.ruby_answers.specs.declared.answer.Answer.TheVariants.{Generated, Ran};
+ghost use Rattle.ruby_answers.specs.declared.done.Answer.TheVariants.{Generated, Ran};
 
 use crate::tested_runs::{plain_run, said_run};
 use crate::{Answer, generated, table_rows};

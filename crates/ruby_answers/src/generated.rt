@@ -1,6 +1,6 @@
 // The text of the generated protocol.
 ghost use Rattle.std.specs.Prelude.{◌≡◌, ◌++◌, IfOk, OnOk};
-ghost use Rattle.ruby_answers.specs.Generated.{generated_name, generated_text, state_text, states_text, transition_text, transitions_text};
+ghost use Rattle.ruby_answers.specs.Prelude.{generated_name, generated_text, state_text, states_text, transition_text, transitions_text};
 
 use ruby_base::{NoMemory, Text};
 use std::alloc::Global;

@@ -4,7 +4,6 @@
 //! not written.
 #![tactic(auto)]
 
-mod answer;
 mod done;
 mod find;
 pub mod generated;
@@ -14,8 +13,7 @@ mod tables;
 mod tested_runs;
 mod writing;
 
-pub use answer::Answer;
-pub use done::{Done, exit_code};
+pub use done::{Answer, Done, exit_code};
 pub use find::find_answer;
 pub use laws::{answers_are_one, clauses_follow};
 pub use ruby_base::{NoMemory, Seq};

@@ -1,9 +1,8 @@
 //! The lines of runs.
 ghost use Rattle.std.specs.Prelude.{◌≡◌, ◌≤◌, cond, count_by, flat_map, slice_get};
-ghost use Rattle.ruby_answers.specs.Text.{final_word, generated_line, is_fired, run_lines, traced_lines};
-ghost use Rattle.slicc_plan.specs.SymbolsOf.{symbols_of};
-ghost use Rattle.trace_print.specs.Entries.{entry_lines};
-ghost use Rattle.trace_print.specs.Pieces.{AreLinesPut, IsLinePut};
+ghost use Rattle.ruby_answers.specs.Prelude.{final_word, generated_line, is_fired, run_lines, traced_lines};
+ghost use Rattle.slicc_plan.specs.Prelude.{symbols_of};
+ghost use Rattle.trace_print.specs.Prelude.{entry_lines, AreLinesPut, IsLinePut};
 
 use protocol_meaning::RunRecord;
 use ruby_base::{Seq, Text};

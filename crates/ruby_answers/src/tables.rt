@@ -1,14 +1,11 @@
 //! The rows of a protocol's tables, and their lines.
 ghost use Rattle.std.specs.Prelude.{◌≡◌, ◌≤◌, ◌^◌, ◌++◌, ℕ, IfOk, OnOk, flat_map, map, slice_get};
 ghost use Rattle.std.specs.Option.{option_copied};
-ghost use Rattle.machine_table.specs.Answers.{answer};
-ghost use Rattle.machine_table.specs.TablesOf.{rows_of_found};
-ghost use Rattle.ruby_answers.specs.Tables.{AreTableRows, answered, answered_in_state, machine_rows};
-ghost use Rattle.ruby_answers.specs.Text.{table_lines};
+ghost use Rattle.machine_table.specs.Prelude.{answer, rows_of_found};
+ghost use Rattle.ruby_answers.specs.Prelude.{AreTableRows, answered, answered_in_state, machine_rows, table_lines};
 ghost use Rattle.slicc_plan.specs.Buffers.{listed};
-ghost use Rattle.slicc_plan.specs.Counts.{numbers_below};
-ghost use Rattle.slicc_plan.specs.Machines.{rows};
-ghost use Rattle.trace_print.specs.Pieces.{AreLinesPut};
+ghost use Rattle.slicc_plan.specs.Prelude.{numbers_below, rows};
+ghost use Rattle.trace_print.specs.Prelude.{AreLinesPut};
 
 use machine_table::{Tables, event_count, kept_number, machines, state_count, tabulate};
 use ruby_base::{NoMemory, Seq};

@@ -1,16 +1,12 @@
 // The runs that options ask for, on one thread.
 ghost use Rattle.std.specs.Prelude.{◌≡◌, ◌≤◌, IfErr, IfOk, false, length, true};
-ghost use Rattle.ruby_answers.specs.Find.{IsRunIn};
-ghost use Rattle.ruby_answers.specs.Headline.{IsByOneWorker};
-ghost use Rattle.ruby_answers.specs.Record.{is_tested};
-ghost use Rattle.ruby_answers.specs.Right.{IsRunOf, plain_topologies, topologies_said};
-ghost use Rattle.ruby_options.specs.Within.{IsWithin};
-ghost use Rattle.protocol_runs.specs.Alone.{IsAlone};
-ghost use Rattle.ruby_topology.specs.Faults.{ForLine};
-ghost use Rattle.ruby_topology.specs.Topology.{IsRefused, IsRefusedPlain};
-ghost use Rattle.ruby_world.specs.Records.{IsWholeRunBy, rules_in};
-ghost use Rattle.slicc_plan.specs.SymbolsOf.{symbols_of};
-ghost use Rattle.protocol_meaning.specs.FitsPlan.{FitsPlan};
+ghost use Rattle.ruby_answers.specs.Prelude.{IsRunIn, IsByOneWorker, is_tested, IsRunOf, plain_topologies, topologies_said};
+ghost use Rattle.ruby_options.specs.Prelude.{IsWithin};
+ghost use Rattle.protocol_runs.specs.Prelude.{IsAlone};
+ghost use Rattle.ruby_topology.specs.Prelude.{ForLine, IsRefused, IsRefusedPlain};
+ghost use Rattle.ruby_world.specs.Prelude.{IsWholeRunBy, rules_in};
+ghost use Rattle.slicc_plan.specs.Prelude.{symbols_of};
+ghost use Rattle.protocol_meaning.specs.Prelude.{FitsPlan};
 
 use protocol_meaning::{plain_topologies_fit, topologies_fit};
 use random_tester::Tester;

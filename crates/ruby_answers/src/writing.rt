@@ -1,9 +1,8 @@
 //! The text of an answer, written to a sink.
 ghost use Rattle.std.specs.Prelude.{◌≡◌, [], ◌∷◌, codes};
-ghost use Rattle.ruby_outside.specs.Sink.{IsWritten};
-ghost use Rattle.ruby_answers.specs.Text.{accepted_line, lines_of, refused_line, text_of, unfit_line, usage_line};
-ghost use Rattle.trace_print.specs.Lines.{line_of};
-ghost use Rattle.trace_print.specs.Pieces.{AreLinesPut, IsLinePut};
+ghost use Rattle.ruby_outside.specs.Prelude.{IsWritten};
+ghost use Rattle.ruby_answers.specs.Prelude.{accepted_line, lines_of, refused_line, text_of, unfit_line, usage_line};
+ghost use Rattle.trace_print.specs.Prelude.{line_of, AreLinesPut, IsLinePut};
 
 use crate::Answer;
 use crate::runs::{write_generated, write_run};

@@ -6,7 +6,7 @@ use Rattle.std.proofs.lemmas.List.Folds.{position_or_len_push}
 use Rattle.std.specs.Cmp.Lexicographic.{nat_list_eq_equiv}
 use Rattle.std.specs.List.{AllByRecursion, IsDistinct, list_any, position_or_len, prefix_len}
 use Rattle.std.specs.Str.{bytes_eq}
-use Rattle.ruby_base.specs.Numbering.{AreDistinct, is_name, number_among, with_name}
+use Rattle.ruby_base.specs.Prelude.{AreDistinct, is_name, number_among, with_name}
 
 -- a name that is there changes nothing
 pub with_name-there : (names : List (List ℕ)) (name : List ℕ) → list_any (is_name name) names ≡ true → with_name names name ≡ names

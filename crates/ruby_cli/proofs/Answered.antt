@@ -2,16 +2,12 @@
 use Rattle.std.proofs.Common.{◌≡◌, inl, inr, ℕ, Bool, Some, List, refl}
 use Rattle.ruby_outside.specs.declared.library.Got.{Got}
 use Rattle.ruby_outside.specs.declared.sink.Wrote.{Wrote}
-use Rattle.slicc_files.specs.Reads.{Read}
-use Rattle.trace_print.specs.Pieces.{AreLinesPut}
+use Rattle.slicc_files.specs.Prelude.{Read}
+use Rattle.trace_print.specs.Prelude.{AreLinesPut}
 use Rattle.ruby_options.specs.declared.options.Options.{Options}
-use Rattle.ruby_answers.specs.declared.answer.Answer.{Answer}
+use Rattle.ruby_answers.specs.declared.done.Answer.{Answer}
 use Rattle.ruby_answers.specs.declared.done.Done.{Done}
-use Rattle.ruby_answers.specs.Answer.{done_of, out_of_memory}
-use Rattle.ruby_answers.specs.Text.{lines_of}
-use Rattle.ruby_answers.specs.Call.{IsAnswered, IsReadOnce}
-use Rattle.ruby_answers.specs.Find.{IsFoundBy}
-use Rattle.ruby_answers.specs.Right.{IsRight}
+use Rattle.ruby_answers.specs.Prelude.{done_of, out_of_memory, lines_of, IsAnswered, IsReadOnce, IsFoundBy, IsRight}
 
 module _ {L S : Type 0} (reads : L → List ℕ → ℕ → Got → L → Type 0) (writes : S → List ℕ → Wrote → S → Type 0) (o : Options) where
   pub answered : (library library' : L) (sink sink' : S) (a : Answer) (whole : Bool) (d : Done)

@@ -5,22 +5,17 @@ use Rattle.std.specs.Result.{result_ok}
 use Rattle.clap.specs.Walk.{Row, Text}
 use Rattle.ruby_outside.specs.declared.library.Got.{Got}
 use Rattle.ruby_outside.specs.declared.sink.Wrote.{Wrote}
-use Rattle.slicc_files.specs.Gathering.IsGathered.{no_memory}
+use Rattle.slicc_files.specs.Prelude.{no_memory}
 use Rattle.slicc_files.specs.declared.gathered.Gathered.TheVariants as gathered
 use Rattle.ruby_options.specs.declared.options.Command.{Command}
 use Rattle.ruby_options.specs.declared.options.Command.TheVariants.{Run, Plain, Check, Table, Code, Gen}
 use Rattle.ruby_options.specs.declared.options.Options.{Options}
 use Rattle.ruby_options.specs.declared.options.OptionFault.{OptionFault}
 use Rattle.ruby_options.specs.declared.options.OptionFault.TheVariants.{Words, Range, NoMemory}
-use Rattle.ruby_options.specs.Asked.{IsRead, are_in_range, asked, asked_by, asked_of, by_names, command_named, command_of, count_in, counting, name_at, names_found, options_of, served, word_found}
-use Rattle.ruby_options.specs.CommandLine.{found_in, is_taken, line_of}
-use Rattle.ruby_options.specs.Numbers.{are_digits}
-use Rattle.ruby_options.specs.Within.{IsWithin}
+use Rattle.ruby_options.specs.Prelude.{IsRead, are_in_range, asked, asked_by, asked_of, by_names, command_named, command_of, count_in, counting, name_at, names_found, options_of, served, word_found, found_in, is_taken, line_of, are_digits, IsWithin}
 use Rattle.ruby_options.proofs.Between.{are_within}
 use Rattle.ruby_answers.specs.declared.done.Done.{Done}
-use Rattle.ruby_answers.specs.Answer.{out_of_memory}
-use Rattle.ruby_answers.specs.Call.{IsAnswered, IsBeginning, IsUsageAnswered}
-use Rattle.ruby_answers.specs.Right.{IsReadBy}
+use Rattle.ruby_answers.specs.Prelude.{out_of_memory, IsAnswered, IsBeginning, IsUsageAnswered, IsReadBy}
 use Rattle.ruby_answers.specs.Words as words
 
 -- over plain values, since the options that words give are long

@@ -1,10 +1,7 @@
 // The top call over the words of a command line.
 ghost use Rattle.std.specs.Prelude.{IfSome, map, string_bytes};
-ghost use Rattle.ruby_outside.specs.Faults.{Rose};
-ghost use Rattle.ruby_answers.specs.Call.{IsAnswered, IsUsageAnswered};
-ghost use Rattle.ruby_answers.specs.Headline.{IsWokenOnce, IsMessageAccount, IsInvalidExactly, IsTallied, IsAsAsked, IsAsWritten, IsCaused, IsComplete, IsByOneWorker};
-ghost use Rattle.ruby_answers.specs.Record.{IsWholeRun};
-ghost use Rattle.ruby_answers.specs.Words.{asked_by};
+ghost use Rattle.ruby_outside.specs.Prelude.{Rose};
+ghost use Rattle.ruby_answers.specs.Prelude.{IsAnswered, IsUsageAnswered, IsWokenOnce, IsMessageAccount, IsInvalidExactly, IsTallied, IsAsAsked, IsAsWritten, IsCaused, IsComplete, IsByOneWorker, IsWholeRun, asked_by};
 
 use crate::top::ruby_alone;
 use crate::{Answer, Done};

@@ -1,10 +1,8 @@
 // The top call on one thread.
 ghost use Rattle.std.specs.Prelude.{◌≡◌, ◌≢◌, Some, IfSome, IsUtf8};
-ghost use Rattle.ruby_outside.specs.Faults.{Rose};
-ghost use Rattle.ruby_answers.specs.Call.{IsAnswered, IsReadOnce};
-ghost use Rattle.ruby_answers.specs.Headline.{IsWokenOnce, IsMessageAccount, IsInvalidExactly, IsTallied, IsAsAsked, IsAsWritten, IsCaused, IsComplete, IsByOneWorker};
-ghost use Rattle.ruby_answers.specs.Record.{IsWholeRun};
-ghost use Rattle.ruby_options.specs.Within.{IsWithin};
+ghost use Rattle.ruby_outside.specs.Prelude.{Rose};
+ghost use Rattle.ruby_answers.specs.Prelude.{IsAnswered, IsReadOnce, IsWokenOnce, IsMessageAccount, IsInvalidExactly, IsTallied, IsAsAsked, IsAsWritten, IsCaused, IsComplete, IsByOneWorker, IsWholeRun};
+ghost use Rattle.ruby_options.specs.Prelude.{IsWithin};
 ghost use Rattle.ruby_options.specs.declared.options.Command.TheVariants.{Code};
 
 use crate::{Done, Options};

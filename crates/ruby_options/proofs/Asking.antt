@@ -4,8 +4,7 @@ use Rattle.clap.specs.Walk.{Row, Text}
 use Rattle.ruby_options.specs.declared.options.Options.{Options}
 use Rattle.ruby_options.specs.declared.options.OptionFault.{OptionFault}
 use Rattle.ruby_options.specs.declared.options.OptionFault.TheVariants.{Words, NoMemory}
-use Rattle.ruby_options.specs.CommandLine.{found_in, is_taken, line_of}
-use Rattle.ruby_options.specs.Asked.{IsRead, asked, asked_of}
+use Rattle.ruby_options.specs.Prelude.{found_in, is_taken, line_of, IsRead, asked, asked_of}
 
 abbrev if_taken : List Text → Bool → Result Options OptionFault
 if_taken words b = cond b (asked_of (found_in (line_of words))) (Err Words)

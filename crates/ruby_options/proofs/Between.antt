@@ -8,9 +8,7 @@ use Rattle.clap.proofs.WalkLemmas.{both}
 use Rattle.ruby_options.specs.declared.options.Command.{Command}
 use Rattle.ruby_options.specs.declared.options.Command.TheVariants.{Run, Plain, Check, Table, Code, Gen}
 use Rattle.ruby_options.specs.declared.tables.TheConstants.{REQUESTS, GENERATED, SEED, CHECKS, LINES, CYCLES, WORKERS, DEADLOCK, LIMIT}
-use Rattle.ruby_options.specs.Asked.{are_in_range, count_in, counting, name_at, numbers_in_range, options_of, works_alone}
-use Rattle.ruby_options.specs.Numbers.{Between, OptionRow, are_digits, is_number_within, number_in, number_of, number_within, option_row, trace_in, value_of}
-use Rattle.ruby_options.specs.Within.{HasDefaults, IsBetween, IsWithin, WorksAlone, requests_of}
+use Rattle.ruby_options.specs.Prelude.{are_in_range, count_in, counting, name_at, numbers_in_range, options_of, works_alone, Between, OptionRow, are_digits, is_number_within, number_in, number_of, number_within, option_row, trace_in, value_of, HasDefaults, IsBetween, IsWithin, WorksAlone, requests_of}
 
 within : (b : Between) (word : Text) → is_number_within b word ≡ true → IsBetween b (value_of word)
 within b word e =

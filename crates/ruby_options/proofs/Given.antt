@@ -5,7 +5,7 @@ use Rattle.clap.specs.Walk.{Text, rows_of}
 use Rattle.clap.specs.declared.parser.matches.Found.{Found}
 use Rattle.clap.proofs.WalkLemmas.{raw_values-rows}
 use Rattle.ruby_options.specs.declared.tables.TheConstants.{NAMES}
-use Rattle.ruby_options.specs.Asked.{names_found}
+use Rattle.ruby_options.specs.Prelude.{names_found}
 
 pub some_list : {X Y : Type 0} (o : Option X) (f : X → List Y) (all : Option (List Y)) → option_map f o ≡ all → (x : X) → o ≡ Some x → f x ≡ unwrap_or all []
 some_list o f all e x is = ap (λ a. unwrap_or a []) (sym (ap (option_map f) is) ∙ e)

@@ -6,7 +6,7 @@ use Rattle.ruby_options.specs.declared.options.Command.{Command}
 use Rattle.ruby_options.specs.declared.options.Options.{Options}
 use Rattle.ruby_options.specs.declared.options.OptionFault.{OptionFault}
 use Rattle.ruby_options.specs.declared.options.OptionFault.TheVariants.{Words, Range}
-use Rattle.ruby_options.specs.Asked.{are_in_range, asked_by, asked_of, asked_with, command_of, count_in, counting, names_found, options_of, word_found}
+use Rattle.ruby_options.specs.Prelude.{are_in_range, asked_by, asked_of, asked_with, command_of, count_in, counting, names_found, options_of, word_found}
 
 abbrev Answer : Type 0
 Answer = Result Options OptionFault

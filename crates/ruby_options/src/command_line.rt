@@ -3,7 +3,7 @@ ghost use Rattle.std.specs.Prelude.{◌≡◌, ◌⊎◌, IfOk, MatchResult, tru
 ghost use Rattle.clap.specs.Matches.{found_of};
 ghost use Rattle.clap.specs.Simple.{app_of};
 ghost use Rattle.clap.specs.Walk.{rows_of};
-ghost use Rattle.ruby_options.specs.CommandLine.{found_in, is_taken, line_of, named_command, ruby_command, with_option};
+ghost use Rattle.ruby_options.specs.Prelude.{found_in, is_taken, line_of, named_command, ruby_command, with_option};
 
 use crate::{COMMAND, NAMES, NUMBERS, NoMemory, NumberOption, OptionFault, PROGRAM, TRACE};
 use clap::error::ErrorKind;

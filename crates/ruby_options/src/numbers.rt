@@ -2,8 +2,7 @@
 ghost use Rattle.std.specs.Prelude.{◌≡◌, ◌≤◌, ◌<◌, IfSome, IfNone, IsTrue, option_map};
 ghost use Rattle.std.specs.List.{list_all};
 ghost use Rattle.clap.specs.Walk.{first_of};
-ghost use Rattle.ruby_options.specs.CommandLine.{rows_given};
-ghost use Rattle.ruby_options.specs.Numbers.{are_digits, is_digit, number_in, number_of, number_within, switch_of, trace_in, value_of};
+ghost use Rattle.ruby_options.specs.Prelude.{rows_given, are_digits, is_digit, number_in, number_of, number_within, switch_of, trace_in, value_of};
 
 use crate::{Bounds, NumberOption, TRACE};
 use clap::ArgMatches;

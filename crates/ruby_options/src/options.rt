@@ -57,10 +57,10 @@ pub enum OptionFault {
 }
 
 impl From<NoMemory> for OptionFault {
-    ghost use Rattle.ruby_options.specs.declared.options.OptionFault.TheVariants.{NoMemory as OutOfMemory};
+    ghost use Rattle.ruby_options.specs.declared.options.OptionFault.TheVariants.{NoMemory};
     ghost use Rattle.std.specs.Prelude.{◌≡◌};
 
-    ghost from_gives = { λ _ fault. fault ≡ OutOfMemory };
+    ghost from_gives = { λ _ fault. fault ≡ NoMemory };
 
     fn from(_: NoMemory) -> OptionFault {
         OptionFault::NoMemory

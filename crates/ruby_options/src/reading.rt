@@ -3,10 +3,7 @@ ghost use Rattle.std.specs.Prelude.{◌≡◌, IfOk, IsUtf8, is_some, map, strin
 ghost use Rattle.std.specs.List.{list_all};
 ghost use Rattle.clap.specs.Matches.{found_of};
 ghost use Rattle.clap.specs.Walk.{rows_of};
-ghost use Rattle.ruby_options.specs.Asked.{IsRead, are_in_range, asked, asked_of, counting, has_no_workers, numbers_in_range, options_of, word_found, works_alone};
-ghost use Rattle.ruby_options.specs.CommandLine.{rows_given};
-ghost use Rattle.ruby_options.specs.Numbers.{number_in, number_of, option_row, trace_in};
-ghost use Rattle.ruby_options.specs.Within.{IsWithin};
+ghost use Rattle.ruby_options.specs.Prelude.{IsRead, are_in_range, asked, asked_of, counting, has_no_workers, numbers_in_range, options_of, word_found, works_alone, rows_given, number_in, number_of, option_row, trace_in, IsWithin};
 
 use crate::command_line::{found_in, line_of};
 use crate::numbers::{number_in, number_of, trace_in};

@@ -1,7 +1,7 @@
 -- How a count of faults that never falls rises over several calls.
 use Rattle.std.proofs.Common.{ℕ, ◌≤◌, inl, inr, arith}
 use Rattle.std.proofs.Math.Nat.{eq-or-lt_of_le}
-use Rattle.ruby_outside.specs.Faults.{Rose}
+use Rattle.ruby_outside.specs.Prelude.{Rose}
 
 -- a rise in the later of two calls is one over both
 pub rose_behind : (first middle last : ℕ) → first ≤ middle → Rose middle last → Rose first last

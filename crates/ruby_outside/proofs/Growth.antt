@@ -3,7 +3,7 @@ use Rattle.std.proofs.Common.{◌≡◌, ℕ, ◌+◌, ◌-◌, ◌<◌, List, [
 use Rattle.std.proofs.Math.Seq.{take-add, take-append-add}
 use Rattle.std.proofs.lemmas.List.{append-nil, take-append-le, take_rest}
 use Rattle.std.specs.Bool.{OnFalse}
-use Rattle.ruby_outside.specs.Sink.{grown, IsCutOff}
+use Rattle.ruby_outside.specs.Prelude.{grown, IsCutOff}
 
 -- bytes and then more bytes are all of them at once
 pub grown-append : (before : Option (List ℕ)) (first more : List ℕ) → grown (grown before first) more ≡ grown before (first ++ more)

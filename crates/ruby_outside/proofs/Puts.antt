@@ -4,11 +4,9 @@ use Rattle.std.proofs.Math.ListN.{drop_of_length-le}
 use Rattle.std.proofs.lemmas.List.{drop-drop, take_rest, take-append-drop}
 use Rattle.ruby_outside.specs.declared.sink.Wrote.{Wrote}
 use Rattle.ruby_outside.specs.declared.sink.Wrote.TheVariants.{Took, Failed}
-use Rattle.ruby_outside.specs.Faults.{Rose}
-use Rattle.ruby_outside.specs.Sink.{grown, IsLawfulWrite, IsWritten}
+use Rattle.ruby_outside.specs.Prelude.{Rose, grown, IsLawfulWrite, IsWritten, IsPut, all_taken, went_on, got_stuck, met_fault}
 use Rattle.ruby_outside.proofs.Counts.{rose_behind}
 use Rattle.ruby_outside.proofs.Growth.{grown-append, grown-nil, cut_behind}
-use Rattle.ruby_outside.specs.Put.{IsPut, all_taken, went_on, got_stuck, met_fault}
 
 pub left_some : (piece : List ℕ) (done : ℕ) → done < length piece → 0 < length (drop done piece)
 left_some piece done more = omega (arith, more, length-drop done piece)

@@ -4,3 +4,4 @@ pub mod Lawful
 pub mod Plan
 pub mod Put
 pub mod Sink
+pub mod Prelude

@@ -1,6 +1,6 @@
 ghost use Rattle.std.specs.Prelude.{ℕ, List, Option};
 ghost use Rattle.ruby_outside.specs.Files.{IsLawfulRead};
-ghost use Rattle.ruby_outside.specs.declared.library.Got.{Got as GotRecord};
+ghost use Rattle.ruby_outside.specs.declared.library.Got.{Got};
 
 use ruby_base::Text;
 
@@ -31,7 +31,7 @@ pub trait Library {
 
     /// What one read is, as far as the library says: the library before it, the name, the limit, the answer, and the
     /// library after it. So a caller can promise that it made one read and no other, and by which answer it went.
-    ghost reads: { Self → List ℕ → ℕ → GotRecord → Self → Type 0 };
+    ghost reads: { Self → List ℕ → ℕ → Got → Self → Type 0 };
 
     /// Reads the file of a name whole, if it has no more than `limit` bytes. A fault or a lack of memory may come in
     /// place of any other answer. What each read keeps is the law `lawful`.
@@ -40,5 +40,5 @@ pub trait Library {
 
     /// What each read keeps: the files that the library tells, and their bytes in its answer; and that its count of faults
     /// never falls, and rose where it failed.
-    ghost lawful: { (before : Self) (name : List ℕ) (limit : ℕ) (got : GotRecord) (after : Self) → reads before name limit got after → IsLawfulRead (files before) (faults before) name limit got (files after) (faults after) };
+    ghost lawful: { (before : Self) (name : List ℕ) (limit : ℕ) (got : Got) (after : Self) → reads before name limit got after → IsLawfulRead (files before) (faults before) name limit got (files after) (faults after) };
 }

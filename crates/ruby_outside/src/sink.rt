@@ -1,7 +1,7 @@
 ghost use Rattle.std.specs.Prelude.{ℕ, List, Option};
 ghost use Rattle.ruby_outside.specs.Put.{IsPut};
 ghost use Rattle.ruby_outside.specs.Sink.{IsLawfulWrite, IsWritten};
-ghost use Rattle.ruby_outside.specs.declared.sink.Wrote.{Wrote as WroteRecord};
+ghost use Rattle.ruby_outside.specs.declared.sink.Wrote.{Wrote};
 
 /// What a sink answers to a write.
 #[derive(Clone, Copy)]
@@ -24,7 +24,7 @@ pub trait Sink {
 
     /// What one write is, as far as the sink says: the sink before it, the piece, the answer, and the sink after it. So a
     /// caller can promise which writes it made, and that it made no other.
-    ghost writes: { Self → List ℕ → WroteRecord → Self → Type 0 };
+    ghost writes: { Self → List ℕ → Wrote → Self → Type 0 };
 
     /// Takes bytes from the start of the piece. To take none of a piece that isn't empty counts as a fault too. What each
     /// write keeps is the law `lawful`.
@@ -33,7 +33,7 @@ pub trait Sink {
 
     /// What each write keeps: what it takes comes to the end of what the sink tells; and its count of faults never falls, and
     /// rose where the write failed or took nothing.
-    ghost lawful: { (before : Self) (piece : List ℕ) (wrote : WroteRecord) (after : Self) → writes before piece wrote after → IsLawfulWrite (written before) (faults before) piece wrote (written after) (faults after) };
+    ghost lawful: { (before : Self) (piece : List ℕ) (wrote : Wrote) (after : Self) → writes before piece wrote after → IsLawfulWrite (written before) (faults before) piece wrote (written after) (faults after) };
 }
 
 /// Writes the whole piece, by as many writes as that takes, and answers whether it did. It answers `false`, and

@@ -3,3 +3,4 @@ pub mod Names
 pub mod Numbers
 pub mod States
 pub mod Types
+pub mod Prelude

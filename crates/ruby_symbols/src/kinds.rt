@@ -1,6 +1,6 @@
 //! The kinds of the values that a type has.
 ghost use Rattle.std.specs.Prelude.{◌≡◌};
-ghost use Rattle.ruby_symbols.specs.Kinds.{kind_named, kind_of_enumeration, kind_of_own, kind_of_reference, simple_kind};
+ghost use Rattle.ruby_symbols.specs.Prelude.{kind_named, kind_of_enumeration, kind_of_own, kind_of_reference, simple_kind};
 
 use crate::machine::MachineSymbols;
 use crate::numbers::is_number;

@@ -2,12 +2,12 @@
 ghost use Rattle.std.specs.Prelude.{◌≡◌, ◌&&◌, position};
 ghost use Rattle.std.specs.List.{list_any};
 ghost use Rattle.std.specs.Str.{bytes_eq};
-ghost use Rattle.ruby_symbols.specs.declared.machine.ActionSymbol.{ActionSymbol as ActionRecord};
-ghost use Rattle.ruby_symbols.specs.declared.machine.BufferSymbol.{BufferSymbol as BufferRecord};
-ghost use Rattle.ruby_symbols.specs.declared.machine.FunctionSymbol.{FunctionSymbol as FunctionRecord};
-ghost use Rattle.ruby_symbols.specs.declared.machine.MachineSymbols.{MachineSymbols as MachineRecord};
-ghost use Rattle.ruby_symbols.specs.declared.machine.PortSymbol.{PortSymbol as PortRecord};
-ghost use Rattle.ruby_symbols.specs.declared.machine.TableSymbol.{TableSymbol as TableRecord};
+ghost use Rattle.ruby_symbols.specs.declared.machine.ActionSymbol.{ActionSymbol};
+ghost use Rattle.ruby_symbols.specs.declared.machine.BufferSymbol.{BufferSymbol};
+ghost use Rattle.ruby_symbols.specs.declared.machine.FunctionSymbol.{FunctionSymbol};
+ghost use Rattle.ruby_symbols.specs.declared.machine.MachineSymbols.{MachineSymbols};
+ghost use Rattle.ruby_symbols.specs.declared.machine.PortSymbol.{PortSymbol};
+ghost use Rattle.ruby_symbols.specs.declared.machine.TableSymbol.{TableSymbol};
 ghost use Rattle.ruby_symbols.specs.Names.{action_among, action_named, buffer_among, buffer_named, carries_requests, function_among, function_named, has_port_on, is_mandatory, is_on, machine_named, mandatory, port_named, port_or_sequencer, sequencer_named, stands_for, table_named, takes_requests};
 
 use crate::machine::{
@@ -32,7 +32,7 @@ pub enum Named {
 }
 
 fn table_place(tables: &[TableSymbol], name: &[u8]) -> Option<usize>
-    ensures { result ≡ position (λ (t : TableRecord). bytes_eq t.name name.now) tables.now }
+    ensures { result ≡ position (λ (t : TableSymbol). bytes_eq t.name name.now) tables.now }
 {
     tables.iter().position(|t| t.name.as_slice() == name)
 }
@@ -44,7 +44,7 @@ fn table_named(m: &MachineSymbols, name: &[u8]) -> Option<u16>
 }
 
 fn buffer_place(buffers: &[BufferSymbol], name: &[u8]) -> Option<usize>
-    ensures { result ≡ position (λ (b : BufferRecord). bytes_eq b.name name.now) buffers.now }
+    ensures { result ≡ position (λ (b : BufferSymbol). bytes_eq b.name name.now) buffers.now }
 {
     buffers.iter().position(|b| b.name.as_slice() == name)
 }
@@ -64,7 +64,7 @@ pub fn buffer_named(m: &MachineSymbols, name: &[u8]) -> Option<u16>
 }
 
 fn port_place(ports: &[PortSymbol], name: &[u8]) -> Option<usize>
-    ensures { result ≡ position (λ (p : PortRecord). bytes_eq p.name name.now) ports.now }
+    ensures { result ≡ position (λ (p : PortSymbol). bytes_eq p.name name.now) ports.now }
 {
     ports.iter().position(|p| p.name.as_slice() == name)
 }
@@ -122,7 +122,7 @@ pub fn stands_for(m: &MachineSymbols, name: &[u8]) -> Option<Named>
 }
 
 fn function_place(functions: &[FunctionSymbol], name: &[u8]) -> Option<usize>
-    ensures { result ≡ position (λ (f : FunctionRecord). bytes_eq f.name name.now) functions.now }
+    ensures { result ≡ position (λ (f : FunctionSymbol). bytes_eq f.name name.now) functions.now }
 {
     functions.iter().position(|f| f.name.as_slice() == name)
 }
@@ -142,7 +142,7 @@ pub fn function_named(m: &MachineSymbols, name: &[u8]) -> Option<u16>
 }
 
 fn action_place(actions: &[ActionSymbol], name: &[u8]) -> Option<usize>
-    ensures { result ≡ position (λ (a : ActionRecord). bytes_eq a.name name.now) actions.now }
+    ensures { result ≡ position (λ (a : ActionSymbol). bytes_eq a.name name.now) actions.now }
 {
     actions.iter().position(|a| a.name.as_slice() == name)
 }
@@ -162,7 +162,7 @@ pub fn action_named(m: &MachineSymbols, name: &[u8]) -> Option<u16>
 }
 
 fn machine_place(machines: &[MachineSymbols], name: &[u8]) -> Option<usize>
-    ensures { result ≡ position (λ (m : MachineRecord). bytes_eq m.name name.now) machines.now }
+    ensures { result ≡ position (λ (m : MachineSymbols). bytes_eq m.name name.now) machines.now }
 {
     machines.iter().position(|m| m.name.as_slice() == name)
 }
@@ -215,7 +215,7 @@ fn has_port_on(m: &MachineSymbols, buffer: Option<u16>) -> bool
 }
 
 fn request_queue(symbols: &Symbols, buffers: &[BufferSymbol]) -> Option<usize>
-    ensures { result ≡ position (λ (b : BufferRecord). is_mandatory b && carries_requests symbols.now b) buffers.now }
+    ensures { result ≡ position (λ (b : BufferSymbol). is_mandatory b && carries_requests symbols.now b) buffers.now }
 {
     buffers
         .iter()

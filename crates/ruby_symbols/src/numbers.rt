@@ -1,6 +1,6 @@
 //! Numbers of what stands in lists.
 ghost use Rattle.std.specs.Prelude.{◌≡◌, option_and_then};
-ghost use Rattle.ruby_symbols.specs.Numbers.{is_number, short_number};
+ghost use Rattle.ruby_symbols.specs.Prelude.{is_number, short_number};
 
 /// A place as a number of 16 bits, or `None` where it is beyond these.
 pub fn short_number(place: Option<usize>) -> Option<u16>

@@ -1,9 +1,9 @@
 //! Types, and what their names stand for.
 ghost use Rattle.std.specs.Prelude.{◌≡◌, ◌&&◌, position};
 ghost use Rattle.std.specs.Str.{bytes_eq};
-ghost use Rattle.ruby_symbols.specs.declared.types.EnumerationSymbol.{EnumerationSymbol as EnumerationRecord};
-ghost use Rattle.ruby_symbols.specs.declared.types.FieldSymbol.{FieldSymbol as FieldRecord};
-ghost use Rattle.ruby_symbols.specs.declared.types.StructureSymbol.{StructureSymbol as StructureRecord};
+ghost use Rattle.ruby_symbols.specs.declared.types.EnumerationSymbol.{EnumerationSymbol};
+ghost use Rattle.ruby_symbols.specs.declared.types.FieldSymbol.{FieldSymbol};
+ghost use Rattle.ruby_symbols.specs.declared.types.StructureSymbol.{StructureSymbol};
 ghost use Rattle.ruby_symbols.specs.Types.{enumeration_named, enumeration_of, field_named, is_owner, member_named, request, structure_named, structure_of};
 
 use crate::numbers::short_number;
@@ -84,13 +84,13 @@ fn enumeration_place(
     owner: Option<u16>,
     name: &[u8],
 ) -> Option<usize>
-    ensures { result ≡ position (λ (e : EnumerationRecord). is_owner e.machine owner && bytes_eq e.name name.now) enumerations.now }
+    ensures { result ≡ position (λ (e : EnumerationSymbol). is_owner e.machine owner && bytes_eq e.name name.now) enumerations.now }
 {
     enumerations.iter().position(|e| is_owner(e.machine, owner) && e.name.as_slice() == name)
 }
 
 fn structure_place(structures: &[StructureSymbol], owner: Option<u16>, name: &[u8]) -> Option<usize>
-    ensures { result ≡ position (λ (s : StructureRecord). is_owner s.machine owner && bytes_eq s.name name.now) structures.now }
+    ensures { result ≡ position (λ (s : StructureSymbol). is_owner s.machine owner && bytes_eq s.name name.now) structures.now }
 {
     structures.iter().position(|s| is_owner(s.machine, owner) && s.name.as_slice() == name)
 }
@@ -151,7 +151,7 @@ pub fn member_named(e: &EnumerationSymbol, name: &[u8]) -> Option<u16>
 }
 
 fn field_place(fields: &[FieldSymbol], name: &[u8]) -> Option<usize>
-    ensures { result ≡ position (λ (f : FieldRecord). bytes_eq f.name name.now) fields.now }
+    ensures { result ≡ position (λ (f : FieldSymbol). bytes_eq f.name name.now) fields.now }
 {
     fields.iter().position(|f| f.name.as_slice() == name)
 }

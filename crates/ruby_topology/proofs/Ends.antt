@@ -3,25 +3,18 @@ use Rattle.std.proofs.Common.{◌≡◌, ◌≤◌, ◌+◌, ◌∙◌, ℕ, tru
 use Rattle.std.specs.List.{All}
 use Rattle.std.proofs.lemmas.Bool.{eqb-true}
 use Rattle.ruby_symbols.specs.declared.symbols.Symbols.{Symbols}
-use Rattle.ruby_topology.specs.declared.rules.TheConstants.{T8_NO_SEAT}
-use Rattle.ruby_topology.specs.declared.rules.TopoFault.{TopoFault}
-use Rattle.ruby_topology.specs.declared.rules.TopoFault.TheVariants.{Line, NoMemory}
-use Rattle.ruby_topology.specs.declared.search.Mark.{Mark}
-use Rattle.ruby_topology.specs.declared.statement.Link.{Link}
-use Rattle.ruby_topology.specs.declared.statement.Member.{Member}
-use Rattle.ruby_topology.specs.declared.statement.Network.{Network}
-use Rattle.ruby_topology.specs.declared.statement.Network.TheVariants.{Links}
-use Rattle.ruby_topology.specs.declared.statement.Statement.{Statement}
+use Rattle.ruby_topology.specs.declared.forms.TheConstants.{T8_NO_SEAT}
+use Rattle.ruby_topology.specs.declared.forms.TopoFault.{TopoFault}
+use Rattle.ruby_topology.specs.declared.forms.TopoFault.TheVariants.{Line, NoMemory}
+use Rattle.ruby_topology.specs.declared.paths.Mark.{Mark}
+use Rattle.ruby_topology.specs.declared.forms.Link.{Link}
+use Rattle.ruby_topology.specs.declared.forms.Member.{Member}
+use Rattle.ruby_topology.specs.declared.forms.Network.{Network}
+use Rattle.ruby_topology.specs.declared.forms.Network.TheVariants.{Links}
+use Rattle.ruby_topology.specs.declared.forms.Statement.{Statement}
 use Rattle.ruby_topology.specs.declared.topology.Seat.{Seat}
 use Rattle.ruby_topology.specs.declared.topology.Topology.{Topology}
-use Rattle.ruby_topology.specs.Faults.{ForLine}
-use Rattle.ruby_topology.specs.Lines.{reading}
-use Rattle.ruby_topology.specs.Paths.{AreRows, HasIsland, IsIsland, IsRow}
-use Rattle.ruby_topology.specs.Said.{controllers}
-use Rattle.ruby_topology.specs.Search.{IsBetween, IsSearched, SumsOf}
-use Rattle.ruby_topology.specs.Text.{lines_of}
-use Rattle.ruby_topology.specs.Topology.{IsLackingSaid, IsRefused, HasIslandSaid, counts_of, lacks_line, links_of, members_from, members_said, network_of, no_seat, after_last, seats_of}
-use Rattle.ruby_topology.specs.Within.{IsWithin}
+use Rattle.ruby_topology.specs.Prelude.{ForLine, reading, AreRows, HasIsland, IsIsland, IsRow, controllers, IsBetween, IsSearched, SumsOf, lines_of, IsLackingSaid, IsRefused, HasIslandSaid, counts_of, lacks_line, links_of, members_from, members_said, network_of, no_seat, after_last, seats_of, IsWithin}
 use Rattle.ruby_topology.proofs.Rows.{found_row}
 use Rattle.ruby_topology.proofs.Totals.{length_of_members, links_between, links_short, sum_of_counts}
 

@@ -2,15 +2,12 @@
 use Rattle.std.proofs.Common.{◌≡◌, ◌≤◌, ◌∙◌, ℕ, Bool, true, false, Result, Ok, Err, List, [], ap, refl, sym, subst, arith, true≢false, length, get_or, ext_get_or}
 use Rattle.ctl_face.specs.declared.routes.Routes.{Routes}
 use Rattle.ruby_symbols.specs.declared.symbols.Symbols.{Symbols}
-use Rattle.ruby_topology.specs.declared.statement.Link.{Link}
-use Rattle.ruby_topology.specs.declared.statement.Network.{Network}
-use Rattle.ruby_topology.specs.declared.statement.Network.TheVariants.{PointToPoint, Crossbar, Mesh, Links}
-use Rattle.ruby_topology.specs.declared.statement.Statement.{Statement}
+use Rattle.ruby_topology.specs.declared.forms.Link.{Link}
+use Rattle.ruby_topology.specs.declared.forms.Network.{Network}
+use Rattle.ruby_topology.specs.declared.forms.Network.TheVariants.{PointToPoint, Crossbar, Mesh, Links}
+use Rattle.ruby_topology.specs.declared.forms.Statement.{Statement}
 use Rattle.ruby_topology.specs.declared.topology.Topology.{Topology}
-use Rattle.ruby_topology.specs.Lines.{Reading, reading}
-use Rattle.ruby_topology.specs.Paths.{AreRows, IsPath, IsRow}
-use Rattle.ruby_topology.specs.Text.{lines_of}
-use Rattle.ruby_topology.specs.Topology.{HasParts, HasRoutes, IsLackingSaid, IsRefused, IsTopologyOf, IsTopologySaid, after_last, at_line, counts_of, lacks_line, links_of, members_from, members_said, network_of, no_line, no_path, no_seat}
+use Rattle.ruby_topology.specs.Prelude.{Reading, reading, AreRows, IsPath, IsRow, lines_of, HasParts, HasRoutes, IsLackingSaid, IsRefused, IsTopologyOf, IsTopologySaid, after_last, at_line, counts_of, lacks_line, links_of, members_from, members_said, network_of, no_line, no_path, no_seat}
 use Rattle.ruby_topology.proofs.Ends.{rows_of_all}
 
 -- Paths.

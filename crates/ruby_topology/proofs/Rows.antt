@@ -2,12 +2,11 @@
 use Rattle.std.proofs.Common.{◌≡◌, ◌<◌, ◌∙◌, ℕ, Option, None, Some, List, length, get_or, map, refl, arith, MatchOption}
 use Rattle.std.specs.List.{range_with_len}
 use Rattle.std.proofs.lemmas.List.FromFn.{length-map-range_with_len, get_or-map-range_with_len}
-use Rattle.ruby_topology.specs.declared.search.Mark.{Mark}
-use Rattle.ruby_topology.specs.declared.statement.Link.{Link}
-use Rattle.ruby_topology.specs.declared.statement.Network.{Network}
-use Rattle.ruby_topology.specs.declared.statement.Network.TheVariants.{PointToPoint, Crossbar, Mesh, Links}
-use Rattle.ruby_topology.specs.Paths.{IsIsland, IsRow, path_by}
-use Rattle.ruby_topology.specs.Search.{IsSearched, SumsOf}
+use Rattle.ruby_topology.specs.declared.paths.Mark.{Mark}
+use Rattle.ruby_topology.specs.declared.forms.Link.{Link}
+use Rattle.ruby_topology.specs.declared.forms.Network.{Network}
+use Rattle.ruby_topology.specs.declared.forms.Network.TheVariants.{PointToPoint, Crossbar, Mesh, Links}
+use Rattle.ruby_topology.specs.Prelude.{IsIsland, IsRow, path_by, IsSearched, SumsOf}
 
 item : (f : ℕ → ℕ) (total k : ℕ) → k < total → get_or (map f (range_with_len 0 total)) k 0 ≡ f k
 item f total k lt = get_or-map-range_with_len f 0 total k k 0 lt (omega arith)

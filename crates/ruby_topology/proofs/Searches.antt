@@ -6,11 +6,10 @@ use Rattle.std.proofs.lemmas.Bool.{cases_lt, cases_eq, ne_eqb, eq-eqb}
 use Rattle.std.proofs.lemmas.List.{get_or-set_same, get_or-set_other, get_or_past, length-set, get_or-replicate, length-replicate}
 use Rattle.std.proofs.lemmas.List.Elements.{All-nil, All-head, All-tail, All-contains_itself, All-push}
 use Rattle.std.proofs.lemmas.List.Sums.{sum_by-set, sum_by-cons, sum_by_push, count_by-le-length}
-use Rattle.ruby_topology.specs.declared.search.Mark.{Mark}
-use Rattle.ruby_topology.specs.declared.search.Mark.TheVariants.{Unreached, Reached, Settled}
-use Rattle.ruby_topology.specs.declared.statement.Link.{Link}
-use Rattle.ruby_topology.specs.Paths.{HasWay, Joins, LeadsTo}
-use Rattle.ruby_topology.specs.Search.{IsBetween, IsNearest, IsSearched, far_end, is_settled, mark_at, mark_end, relaxed, shorter, sum_at}
+use Rattle.ruby_topology.specs.declared.paths.Mark.{Mark}
+use Rattle.ruby_topology.specs.declared.paths.Mark.TheVariants.{Unreached, Reached, Settled}
+use Rattle.ruby_topology.specs.declared.forms.Link.{Link}
+use Rattle.ruby_topology.specs.Prelude.{HasWay, Joins, LeadsTo, IsBetween, IsNearest, IsSearched, far_end, is_settled, mark_at, mark_end, relaxed, shorter, sum_at}
 
 -- a sum was found that is at most this one
 abbrev pub IsWithin : List Mark → ℕ → ℕ → Type 0

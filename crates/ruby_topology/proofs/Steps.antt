@@ -5,8 +5,8 @@ use Rattle.std.specs.Option.{option_to_list}
 use Rattle.std.proofs.lemmas.List.{append_assoc, take_more}
 use Rattle.std.proofs.lemmas.List.Elements.{filter_map-append}
 use Rattle.std.proofs.lemmas.List.FromFn.{map-range_with_len_more}
-use Rattle.ruby_topology.specs.declared.statement.Member.{Member}
-use Rattle.ruby_topology.specs.Topology.{members_of}
+use Rattle.ruby_topology.specs.declared.forms.Member.{Member}
+use Rattle.ruby_topology.specs.Prelude.{members_of}
 
 pub step_map : {X : Type 0} (f : ℕ → X) (n : ℕ) (old new : List X) (x : X) → old ≡ map f (range_with_len 0 n) → new ≡ old ++ x ∷ [] → x ≡ f n → new ≡ map f (range_with_len 0 (n + 1))
 step_map f n old new x was pushed is =

@@ -5,7 +5,7 @@ use Rattle.std.proofs.lemmas.Bool.{ne_eqb, false≢true}
 use Rattle.std.proofs.lemmas.List.{drop_all, drop_more, take_rest}
 use Rattle.std.proofs.lemmas.List.Splits.{slice_split_none}
 use Rattle.std.proofs.lemmas.List.Sums.{prefix_len_is}
-use Rattle.ruby_topology.specs.Text.{before_comment, is_blank, is_some_word, lines_of, words_of}
+use Rattle.ruby_topology.specs.Prelude.{before_comment, is_blank, is_some_word, lines_of, words_of}
 
 -- no line feed stands before this place
 abbrev pub NoEndBefore : List ℕ → ℕ → Type 0

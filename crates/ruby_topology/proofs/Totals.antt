@@ -9,16 +9,13 @@ use Rattle.std.proofs.lemmas.List.FromFn.{length-range_with_len}
 use Rattle.std.proofs.lemmas.List.Quantifiers.{position-Some}
 use Rattle.std.proofs.lemmas.List.Sums.{sum-map, sum_by-cons}
 use Rattle.ruby_symbols.specs.declared.symbols.Symbols.{Symbols}
-use Rattle.ruby_topology.specs.declared.statement.Link.{Link as LinkOf}
-use Rattle.ruby_topology.specs.declared.statement.Member.{Member}
-use Rattle.ruby_topology.specs.declared.statement.Network.TheVariants.{PointToPoint}
-use Rattle.ruby_topology.specs.declared.statement.Statement.{Statement}
-use Rattle.ruby_topology.specs.declared.statement.Statement.TheVariants.{Machine, Network, Link}
-use Rattle.ruby_topology.specs.Members.{count_or_none}
-use Rattle.ruby_topology.specs.Said.{controllers, count_of, counted, is_member, network_in, network_said}
-use Rattle.ruby_topology.specs.Search.{IsBetween}
-use Rattle.ruby_topology.specs.Topology.{counts_of, link_in, links_of, members_from, members_of, network_of, number_in}
-use Rattle.ruby_topology.specs.Within.{IsNetworkWithin, IsWithin}
+use Rattle.ruby_topology.specs.declared.forms.Link.{Link as LinkOf}
+use Rattle.ruby_topology.specs.declared.forms.Member.{Member}
+use Rattle.ruby_topology.specs.declared.forms.Network.TheVariants.{PointToPoint}
+use Rattle.ruby_topology.specs.declared.forms.Statement.{Statement}
+use Rattle.ruby_topology.specs.declared.forms.Statement.TheVariants.{Machine, Network, Link}
+use Rattle.ruby_topology.specs.Prelude.{count_or_none, controllers, count_of, counted, is_member, network_in, network_said, IsBetween, counts_of, link_in, links_of, members_from, members_of, network_of, IsNetworkWithin, IsWithin}
+use Rattle.ruby_topology.specs.Topology.{number_in}
 
 -- it is before the range
 one_before : (f : ℕ → ℕ) (k c a n : ℕ) → k < a → sum_by (λ m. cond (eqb k m) c (f m)) (range_with_len a n) ≡ sum_by f (range_with_len a n)

@@ -8,3 +8,4 @@ pub mod Search
 pub mod Text
 pub mod Topology
 pub mod Within
+pub mod Prelude

@@ -13,13 +13,13 @@ use Rattle.ruby_symbols.specs.declared.names.Named.{Named}
 use Rattle.ruby_symbols.specs.declared.names.Named.TheVariants.{Table, Value}
 use Rattle.ruby_symbols.specs.declared.symbols.Symbols.{Symbols}
 use Rattle.ruby_symbols.specs.declared.types.FieldSymbol.{FieldSymbol}
-use Rattle.ruby_symbols.specs.Names.{machine_named, stands_for}
+use Rattle.ruby_symbols.specs.Prelude.{machine_named, stands_for}
 use Rattle.ruby_topology.specs.declared.forms.Form.{Form}
 use Rattle.ruby_topology.specs.declared.forms.Form.TheVariants as form
-use Rattle.ruby_topology.specs.declared.rules.TheConstants.{T1_FORM, T2_NUMBER, T3_NAME, T4_TWICE, T6_TOO_MANY}
-use Rattle.ruby_topology.specs.declared.statement.Network.TheVariants.{PointToPoint, Crossbar, Mesh, Links}
-use Rattle.ruby_topology.specs.declared.statement.Statement.{Statement}
-use Rattle.ruby_topology.specs.declared.statement.Statement.TheVariants.{Machine, Network, Link, Jitter, Ordered, Cache, Tbes, Set}
+use Rattle.ruby_topology.specs.declared.forms.TheConstants.{T1_FORM, T2_NUMBER, T3_NAME, T4_TWICE, T6_TOO_MANY}
+use Rattle.ruby_topology.specs.declared.forms.Network.TheVariants.{PointToPoint, Crossbar, Mesh, Links}
+use Rattle.ruby_topology.specs.declared.forms.Statement.{Statement}
+use Rattle.ruby_topology.specs.declared.forms.Statement.TheVariants.{Machine, Network, Link, Jitter, Ordered, Cache, Tbes, Set}
 use Rattle.ruby_topology.specs.Forms.{form_of}
 use Rattle.ruby_topology.specs.Members.{member_named}
 use Rattle.ruby_topology.specs.Said.{controllers, counted, is_links, is_said, network_said}

@@ -6,8 +6,8 @@ use Rattle.std.specs.Option.{option_map}
 use Rattle.std.specs.Str.{bytes_eq}
 use Rattle.ruby_symbols.specs.declared.machine.MachineSymbols.{MachineSymbols}
 use Rattle.ruby_symbols.specs.declared.symbols.Symbols.{Symbols}
-use Rattle.ruby_topology.specs.declared.statement.Member.{Member}
-use Rattle.ruby_topology.specs.declared.statement.Statement.{Statement}
+use Rattle.ruby_topology.specs.declared.forms.Member.{Member}
+use Rattle.ruby_topology.specs.declared.forms.Statement.{Statement}
 use Rattle.ruby_topology.specs.Said.{count_of, first_some}
 
 -- a number below 100 as digits: an index is below 64

@@ -4,9 +4,9 @@
 -- networks are those of gem5's topologies, their lengths this project's own.
 use Rattle.std.specs.Prelude.{ℕ, ◌≡◌, ◌<◌, ◌≤◌, ◌+◌, ◌-◌, ◌*◌, ◌/◌, ◌%◌, ◌==◌, ◌⊎◌, All, Contains, List, [], ◌∷◌, cond, length, slice_index, sum_by}
 use Rattle.std.specs.List.{slice_index_or}
-use Rattle.ruby_topology.specs.declared.statement.Link.{Link}
-use Rattle.ruby_topology.specs.declared.statement.Network.{Network}
-use Rattle.ruby_topology.specs.declared.statement.Network.TheVariants.{PointToPoint, Crossbar, Mesh, Links}
+use Rattle.ruby_topology.specs.declared.forms.Link.{Link}
+use Rattle.ruby_topology.specs.declared.forms.Network.{Network}
+use Rattle.ruby_topology.specs.declared.forms.Network.TheVariants.{PointToPoint, Crossbar, Mesh, Links}
 
 -- a link joins two controllers, both ways
 abbrev pub Joins : Link → ℕ → ℕ → Type 0

@@ -3,11 +3,11 @@
 use Rattle.std.specs.Prelude.{ℕ, ◌==◌, ◌&&◌, ◌||◌, Bool, true, false, cond, Option, None, Some, List, [], ◌∷◌, is_some, sum_by}
 use Rattle.std.specs.List.{list_any}
 use Rattle.std.specs.Option.{option_or}
-use Rattle.ruby_topology.specs.declared.statement.Member.{Member}
-use Rattle.ruby_topology.specs.declared.statement.Network.{Network as NetworkOf}
-use Rattle.ruby_topology.specs.declared.statement.Network.TheVariants.{Links}
-use Rattle.ruby_topology.specs.declared.statement.Statement.{Statement}
-use Rattle.ruby_topology.specs.declared.statement.Statement.TheVariants.{Machine, Network, Link, Jitter, Ordered, Cache, Tbes, Set}
+use Rattle.ruby_topology.specs.declared.forms.Member.{Member}
+use Rattle.ruby_topology.specs.declared.forms.Network.{Network as NetworkOf}
+use Rattle.ruby_topology.specs.declared.forms.Network.TheVariants.{Links}
+use Rattle.ruby_topology.specs.declared.forms.Statement.{Statement}
+use Rattle.ruby_topology.specs.declared.forms.Statement.TheVariants.{Machine, Network, Link, Jitter, Ordered, Cache, Tbes, Set}
 
 -- the first answer that there is
 abbrev pub first_some : {A B : Type 0} → (A → Option B) → List A → Option B

@@ -2,9 +2,9 @@
 -- first.
 use Rattle.std.specs.Prelude.{ℕ, ◌≡◌, ◌<◌, ◌≤◌, ◌+◌, ◌*◌, ◌==◌, Bool, true, false, cond, nat_lt, min, Option, None, Some, List, length, slice_set, MatchOption}
 use Rattle.std.specs.List.{slice_index_or}
-use Rattle.ruby_topology.specs.declared.search.Mark.{Mark}
-use Rattle.ruby_topology.specs.declared.search.Mark.TheVariants.{Unreached, Reached, Settled}
-use Rattle.ruby_topology.specs.declared.statement.Link.{Link}
+use Rattle.ruby_topology.specs.declared.paths.Mark.{Mark}
+use Rattle.ruby_topology.specs.declared.paths.Mark.TheVariants.{Unreached, Reached, Settled}
+use Rattle.ruby_topology.specs.declared.forms.Link.{Link}
 use Rattle.ruby_topology.specs.Paths.{HasWay, IsLeastSum}
 
 -- the sum that was found, if any

@@ -11,15 +11,14 @@ use Rattle.ruby_value.specs.declared.setup.Sizes.{Sizes}
 use Rattle.ruby_symbols.specs.declared.machine.BufferSymbol.{BufferSymbol}
 use Rattle.ruby_symbols.specs.declared.machine.MachineSymbols.{MachineSymbols}
 use Rattle.ruby_symbols.specs.declared.symbols.Symbols.{Symbols}
-use Rattle.ruby_symbols.specs.Names.{mandatory, takes_requests}
-use Rattle.ruby_symbols.specs.Numbers.{number_of}
-use Rattle.ruby_topology.specs.declared.rules.TheConstants.{T5_NO_LINE, T7_NO_PATH, T8_NO_SEAT}
-use Rattle.ruby_topology.specs.declared.statement.Link.{Link as LinkOf}
-use Rattle.ruby_topology.specs.declared.statement.Member.{Member}
-use Rattle.ruby_topology.specs.declared.statement.Network.{Network as NetworkOf}
-use Rattle.ruby_topology.specs.declared.statement.Network.TheVariants.{PointToPoint}
-use Rattle.ruby_topology.specs.declared.statement.Statement.{Statement}
-use Rattle.ruby_topology.specs.declared.statement.Statement.TheVariants.{Link, Cache, Tbes, Set}
+use Rattle.ruby_symbols.specs.Prelude.{mandatory, takes_requests, number_of}
+use Rattle.ruby_topology.specs.declared.forms.TheConstants.{T5_NO_LINE, T7_NO_PATH, T8_NO_SEAT}
+use Rattle.ruby_topology.specs.declared.forms.Link.{Link as LinkOf}
+use Rattle.ruby_topology.specs.declared.forms.Member.{Member}
+use Rattle.ruby_topology.specs.declared.forms.Network.{Network}
+use Rattle.ruby_topology.specs.declared.forms.Network.TheVariants.{PointToPoint}
+use Rattle.ruby_topology.specs.declared.forms.Statement.{Statement}
+use Rattle.ruby_topology.specs.declared.forms.Statement.TheVariants.{Link, Cache, Tbes, Set}
 use Rattle.ruby_topology.specs.declared.topology.Seat.{Seat}
 use Rattle.ruby_topology.specs.declared.topology.Topology.{Topology}
 use Rattle.ruby_topology.specs.Lines.{reading}
@@ -64,7 +63,7 @@ link_in members _ = None
 abbrev pub links_of : List Member → List Statement → List LinkOf
 links_of members said = filter_map (link_in members) said
 
-abbrev pub network_of : List Statement → NetworkOf
+abbrev pub network_of : List Statement → Network
 network_of said = unwrap_or (network_said said) (PointToPoint 1)
 
 -- Buffers on virtual networks.

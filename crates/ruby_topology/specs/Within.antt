@@ -1,9 +1,9 @@
 -- The ranges of a topology's numbers, which are this project's own.
 use Rattle.std.specs.Prelude.{ℕ, ◌≤◌, ◌*◌, pos, ◌≤ℤ◌}
-use Rattle.ruby_topology.specs.declared.statement.Network.{Network as NetworkOf}
-use Rattle.ruby_topology.specs.declared.statement.Network.TheVariants.{PointToPoint, Crossbar, Mesh, Links}
-use Rattle.ruby_topology.specs.declared.statement.Statement.{Statement}
-use Rattle.ruby_topology.specs.declared.statement.Statement.TheVariants.{Machine, Network, Link, Jitter, Ordered, Cache, Tbes, Set}
+use Rattle.ruby_topology.specs.declared.forms.Network.{Network as NetworkOf}
+use Rattle.ruby_topology.specs.declared.forms.Network.TheVariants.{PointToPoint, Crossbar, Mesh, Links}
+use Rattle.ruby_topology.specs.declared.forms.Statement.{Statement}
+use Rattle.ruby_topology.specs.declared.forms.Statement.TheVariants.{Machine, Network, Link, Jitter, Ordered, Cache, Tbes, Set}
 
 abbrev pub longest_step : ℕ
 longest_step = 1000

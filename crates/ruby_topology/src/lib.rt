@@ -2,23 +2,19 @@
 //! tables are.
 #![tactic(auto)]
 
-mod counts;
 mod forms;
 mod laws;
 mod lines;
 mod members;
 mod paths;
 mod routes;
-mod rules;
 mod said;
-mod search;
-mod statement;
 mod text;
 mod topology;
 
 pub use ctl_face::Routes;
+pub use forms::TopoFault;
 pub use laws::answers_are_one;
 pub use ruby_base::{NoMemory, Seq, Text};
 pub use ruby_value::Sizes;
-pub use rules::TopoFault;
 pub use topology::{Seat, Topology, plain, read_topology};

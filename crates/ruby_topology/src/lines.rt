@@ -7,11 +7,12 @@ ghost use Rattle.ruby_topology.specs.Said.{controllers, counted};
 ghost use Rattle.ruby_topology.specs.Text.{lines_of, words_of};
 ghost use Rattle.ruby_topology.specs.Within.{IsWithin};
 
-use crate::forms::{Form, form_of};
+use crate::forms::{
+    Form, Network, Statement, T1_FORM, T2_NUMBER, T3_NAME, T4_TWICE, T6_TOO_MANY, TopoFault,
+    form_of,
+};
 use crate::members::member_named;
-use crate::rules::{T1_FORM, T2_NUMBER, T3_NAME, T4_TWICE, T6_TOO_MANY, TopoFault};
 use crate::said::{controllers, counted, is_links, is_said, network_said};
-use crate::statement::{Network, Statement};
 use crate::text::{before_comment, first_line, number_within, word_at, word_count};
 use ruby_base::Seq;
 use ruby_symbols::{MachineSymbols, Named, Symbols, TableSort, machine_named, stands_for};

@@ -1,14 +1,14 @@
-//! Paths between controllers.
-ghost use Rattle.std.specs.Prelude.{◌≡◌, ◌<◌, ◌≤◌, ℕ, All, IfOk, MatchOption, length, map};
+//! Paths between controllers, as least sums of links.
+ghost use Rattle.std.specs.Prelude.{◌≡◌, ◌<◌, ◌≤◌, ℕ, All, IfOk, MatchOption, length, map, ◌+◌, ◌^◌, fold, slice_set};
 ghost use Rattle.std.specs.List.{range_with_len};
-ghost use Rattle.ruby_topology.specs.declared.statement.Link.{Link as LinkRecord};
-ghost use Rattle.ruby_topology.specs.declared.statement.Network.TheVariants.{Links};
+ghost use Rattle.ruby_topology.specs.declared.forms.Link.{Link};
+ghost use Rattle.ruby_topology.specs.declared.forms.Network.TheVariants.{Links};
 ghost use Rattle.ruby_topology.specs.Paths.{AreRows, HasIsland, IsIsland, IsRow, distance, path_by, steps_between};
-ghost use Rattle.ruby_topology.specs.Search.{IsBetween, SumsOf};
+ghost use Rattle.ruby_topology.specs.Search.{IsBetween, SumsOf, IsNearest, IsSearched, far_end, nearer, relaxed, shorter, sum_at};
 ghost use Rattle.ruby_topology.specs.Within.{IsNetworkWithin};
+ghost use Rattle.ruby_topology.specs.declared.paths.Mark.TheVariants.{Settled};
 
-use crate::search::{Mark, search, sum_at};
-use crate::statement::{Link, Network};
+use crate::forms::{Link, Network};
 use ruby_base::{NoMemory, Seq};
 use std::alloc::Global;
 
@@ -92,7 +92,7 @@ fn link_row(
     requires from { from < total }
     requires few { total ≤ 64 }
     requires between { All (IsBetween total) links.now }
-    requires steps { All (λ (l : LinkRecord). l.length ≤ 1000) links.now }
+    requires steps { All (λ (l : Link). l.length ≤ 1000) links.now }
     ensures { IfOk result (λ o. MatchOption o (IsIsland Links links.now total from) (IsRow Links links.now total from)) }
 {
     let marks = search(alloc, links, total, from)?;
@@ -113,7 +113,7 @@ fn row(
     requires from { from < total }
     requires few { total ≤ 64 }
     requires between { All (IsBetween total) links.now }
-    requires steps { All (λ (l : LinkRecord). l.length ≤ 1000) links.now }
+    requires steps { All (λ (l : Link). l.length ≤ 1000) links.now }
     ensures { IfOk result (λ o. MatchOption o (IsIsland network links.now total from) (IsRow network links.now total from)) }
 {
     match network {
@@ -135,7 +135,7 @@ pub fn rows(
     requires network { IsNetworkWithin network }
     requires few { total ≤ 64 }
     requires between { All (IsBetween total) links.now }
-    requires steps { All (λ (l : LinkRecord). l.length ≤ 1000) links.now }
+    requires steps { All (λ (l : Link). l.length ≤ 1000) links.now }
     ensures { IfOk result (λ o. MatchOption o (HasIsland network links.now total) (AreRows network links.now total)) }
 {
     let mut rows = Seq::new(alloc);
@@ -146,4 +146,126 @@ pub fn rows(
         }
     }
     Ok(Some(rows))
+}
+
+/// What the search knows of a controller.
+#[derive(Clone, Copy)]
+pub enum Mark {
+    Unreached,
+    /// Some list of links has this sum.
+    Reached(u64),
+    /// No list of links has a lesser sum than this one.
+    Settled(u64),
+}
+
+/// The sum that was found, if any.
+pub fn sum_at(mark: Mark) -> Option<u64>
+    ensures { result ≡ sum_at mark }
+{
+    match mark {
+        Mark::Unreached => None,
+        Mark::Reached(sum) => Some(sum),
+        Mark::Settled(sum) => Some(sum),
+    }
+}
+
+fn nearer(best: Option<(usize, u64)>, v: usize, mark: Mark) -> Option<(usize, u64)>
+    ensures { result ≡ nearer best v mark }
+{
+    let Mark::Reached(sum) = mark else {
+        return best;
+    };
+    match best {
+        None => Some((v, sum)),
+        Some(b) => { if sum < b.1 { Some((v, sum)) } else { Some(b) } }
+    }
+}
+
+// The nearest controller that isn't settled, with its sum.
+fn nearest(marks: &[Mark]) -> Option<(usize, u64)>
+    ensures { IsNearest marks.now (length marks.now) result }
+{
+    let mut best = None;
+    for (v, mark) in marks.iter().enumerate() {
+        best = nearer(best, v, *mark);
+    }
+    best
+}
+
+fn far_end(link: &Link, u: usize) -> Option<usize>
+    ensures { result ≡ far_end link.now u }
+{
+    if link.one == u {
+        Some(link.other)
+    } else if link.other == u {
+        Some(link.one)
+    } else {
+        None
+    }
+}
+
+fn shorter(mark: Mark, sum: u64) -> Mark
+    ensures { result ≡ shorter mark sum }
+{
+    match mark {
+        Mark::Unreached => Mark::Reached(sum),
+        Mark::Reached(other) => Mark::Reached(sum.min(other)),
+        Mark::Settled(other) => Mark::Settled(other),
+    }
+}
+
+// Marks the far end of a link.
+fn relax_link(marks: &mut [Mark], link: &Link, u: usize, sum: u64)
+    requires between { IsBetween (length marks.old) link.now }
+    requires room { sum + link.now.length < 2 ^ 64 }
+    ensures { marks.new ≡ relaxed u sum marks.old link.now }
+{
+    if let Some(v) = far_end(link, u) {
+        marks[v] = shorter(marks[v], sum + link.length);
+    }
+}
+
+// Marks the far ends of all links of a controller that is settled.
+fn relax(marks: &mut [Mark], links: &[Link], u: usize, sum: u64)
+    requires between { All (IsBetween (length marks.old)) links.now }
+    requires steps { All (λ (l : Link). l.length ≤ 1000) links.now }
+    requires room { sum ≤ 1000000 }
+    ensures { marks.new ≡ fold (relaxed u sum) marks.old links.now }
+{
+    for link in links {
+        relax_link(marks, link, u, sum);
+    }
+}
+
+// Settles the nearest controller, and marks the far ends of its links.
+fn settle(marks: &mut [Mark], links: &[Link], u: usize, sum: u64)
+    requires inside { u < length marks.old }
+    requires between { All (IsBetween (length marks.old)) links.now }
+    requires steps { All (λ (l : Link). l.length ≤ 1000) links.now }
+    requires room { sum ≤ 1000000 }
+    ensures { marks.new ≡ fold (relaxed u sum) (slice_set marks.old u (Settled sum)) links.now }
+{
+    marks[u] = Mark::Settled(sum);
+    relax(marks, links, u, sum);
+}
+
+/// The least sums of links from a controller to each other one.
+pub fn search(
+    alloc: Global,
+    links: &[Link],
+    total: usize,
+    from: usize,
+) -> Result<Vec<Mark>, NoMemory>
+    requires from { from < total }
+    requires few { total ≤ 64 }
+    requires between { All (IsBetween total) links.now }
+    requires steps { All (λ (l : Link). l.length ≤ 1000) links.now }
+    ensures { IfOk result (λ marks. IsSearched links.now total from marks.items) }
+{
+    let mut marks = vec![in alloc; Mark::Unreached; total]?;
+    marks[from] = Mark::Reached(0);
+    while let Some((u, sum)) = nearest(&marks) {
+        settle(&mut marks, links, u, sum);
+    }
+    Ok(marks)
 }

@@ -1,13 +1,14 @@
 //! Links by numbers, buffers on virtual networks, sizes and seats.
 ghost use Rattle.std.specs.Prelude.{◌≡◌, ◌≤◌, IfOk, length, map};
 ghost use Rattle.std.specs.List.{filter_map, list_any, position, range_with_len};
-ghost use Rattle.ruby_symbols.specs.declared.machine.BufferSymbol.{BufferSymbol as BufferRecord};
-ghost use Rattle.ruby_topology.specs.declared.statement.Member.{Member as MemberRecord};
-ghost use Rattle.ruby_topology.specs.Topology.{cache_of, calls_ordered, can_be_asked, has_ordered, is_from, is_on, is_ordered_on, is_seat, link_in, links_of, number_in, receiving_at, receiving_of, seat_of, seats_of, sizes_of, tbes_of, value_of};
+ghost use Rattle.ruby_symbols.specs.declared.machine.BufferSymbol.{BufferSymbol};
+ghost use Rattle.ruby_topology.specs.declared.forms.Member.{Member};
+ghost use Rattle.ruby_topology.specs.Topology.{number_in, value_of};
+ghost use Rattle.ruby_topology.specs.Prelude.{cache_of, calls_ordered, can_be_asked, has_ordered, is_from, is_on, is_ordered_on, is_seat, link_in, links_of, receiving_at, receiving_of, seat_of, seats_of, sizes_of, tbes_of};
 
-use crate::counts::push_some;
+use crate::forms::{Link, Member, Statement};
+use crate::members::push_some;
 use crate::said::{is_member, is_ordered_said};
-use crate::statement::{Link, Member, Statement};
 use crate::topology::Seat;
 use ruby_base::{NoMemory, Seq};
 use ruby_symbols::{BufferSymbol, MachineSymbols, Symbols, mandatory};
@@ -59,7 +60,7 @@ fn is_from(b: &BufferSymbol, network: u16) -> bool
 }
 
 fn receiving_place(m: &MachineSymbols, network: u16) -> Option<usize>
-    ensures { result ≡ position (λ (b : BufferRecord). is_from network b.place) m.now.buffers }
+    ensures { result ≡ position (λ (b : BufferSymbol). is_from network b.place) m.now.buffers }
 {
     m.buffers.iter().position(|b| is_from(b, network))
 }
@@ -93,7 +94,7 @@ pub fn receiving(
     symbols: &Symbols,
     members: &[Member],
 ) -> Result<Seq<Seq<Option<u16>>>, NoMemory>
-    ensures { IfOk result (λ all. all ≡ map (λ (c : MemberRecord). receiving_of symbols.now c.machine) members.now) }
+    ensures { IfOk result (λ all. all ≡ map (λ (c : Member). receiving_of symbols.now c.machine) members.now) }
 {
     let mut all = Seq::new(alloc);
     for c in members {

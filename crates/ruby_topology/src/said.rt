@@ -1,8 +1,8 @@
 //! What the lines so far say.
 ghost use Rattle.std.specs.Prelude.{◌≡◌, ◌≤◌, is_some};
-ghost use Rattle.ruby_topology.specs.Said.{controllers, count_in, count_of, counted, is_linked, is_links, is_member, is_ordered_said, is_said, is_set, is_sized, jitter_in, jitter_said, joins, network_in, network_said, orders, sets_value, sizes_table};
+ghost use Rattle.ruby_topology.specs.Prelude.{controllers, count_in, count_of, counted, is_linked, is_links, is_member, is_ordered_said, is_said, is_set, is_sized, jitter_in, jitter_said, joins, network_in, network_said, orders, sets_value, sizes_table};
 
-use crate::statement::{Member, Network, Statement};
+use crate::forms::{Member, Network, Statement};
 
 fn count_in(s: &Statement, machine: usize) -> Option<u32>
     ensures { result ≡ count_in machine s.now }

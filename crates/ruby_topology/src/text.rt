@@ -1,7 +1,8 @@
 //! Lines, words and numbers.
 ghost use Rattle.std.specs.Prelude.{◌≡◌, ◌<◌, ◌≤◌, ◌∷◌, false, drop, length, IfSome, IfNone, IsTrue};
 ghost use Rattle.std.specs.List.{list_all, slice_index_or};
-ghost use Rattle.ruby_topology.specs.Text.{before_comment, is_blank, is_digit, lines_of, number_within, value_of, word_at, words_of};
+ghost use Rattle.ruby_topology.specs.Text.{value_of};
+ghost use Rattle.ruby_topology.specs.Prelude.{before_comment, is_blank, is_digit, lines_of, number_within, word_at, words_of};
 
 /// The first line, and what follows it.
 pub fn first_line(bytes: &[u8]) -> (&[u8], &[u8])

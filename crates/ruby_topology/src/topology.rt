@@ -1,21 +1,20 @@
 //! The topology of a file, and that of a plain run.
 ghost use Rattle.std.specs.Prelude.{◌≡◌, ◌≤◌, ◌∷◌, [], All, IfErr, IfOk, MatchOption, false, length, map, sum};
 ghost use Rattle.std.specs.List.{range_with_len};
-ghost use Rattle.ruby_topology.specs.declared.statement.Network.TheVariants.{PointToPoint};
+ghost use Rattle.ruby_topology.specs.declared.forms.Network.TheVariants.{PointToPoint};
 ghost use Rattle.ruby_topology.specs.Faults.{ForLine};
 ghost use Rattle.ruby_topology.specs.Paths.{AreRows, HasIsland};
 ghost use Rattle.ruby_topology.specs.Said.{controllers};
 ghost use Rattle.ruby_topology.specs.Topology.{HasParts, HasRoutes, IsLackingSaid, IsPlainOf, IsRefused, IsRefusedPlain, IsTopologyOf, IsTopologySaid, can_be_plain, counts_of, lacks_line, links_of, members_from, network_of, ranges_from, sizes_of};
 ghost use Rattle.ruby_topology.specs.Within.{IsWithin};
-ghost use Rattle.slicc_plan.specs.SymbolsOf.{symbols_of};
+ghost use Rattle.slicc_plan.specs.Prelude.{symbols_of};
 
-use crate::counts::{counts, members, names, ranges};
+use crate::forms::{Member, Network, Statement, T5_NO_LINE, T7_NO_PATH, T8_NO_SEAT, TopoFault};
 use crate::lines::read_lines;
+use crate::members::{counts, members, names, ranges};
 use crate::paths::{computed_row, rows};
 use crate::routes::{links, ordered, receiving, seats, sizes};
-use crate::rules::{T5_NO_LINE, T7_NO_PATH, T8_NO_SEAT, TopoFault};
 use crate::said::{jitter_said, network_said};
-use crate::statement::{Member, Network, Statement};
 use ctl_face::Routes;
 use ruby_base::{NoMemory, Seq, Text};
 use ruby_symbols::{Symbols, takes_requests};

@@ -5,15 +5,7 @@ use Rattle.std.proofs.Math.ListN.{length-set}
 use Rattle.std.proofs.lemmas.List.{get_or_default, length-replicate}
 use Rattle.std.proofs.lemmas.Map.{length-set_value}
 use Rattle.ruby_value.specs.declared.value.Value.{Value}
-use Rattle.ruby_value.specs.AreLinesOf.{AreLinesOf}
-use Rattle.ruby_value.specs.Cache.{Cache, Line}
-use Rattle.ruby_value.specs.FieldsOf.{fields_of}
-use Rattle.ruby_value.specs.IsCache.{IsCache}
-use Rattle.ruby_value.specs.MadeRecent.{made_recent}
-use Rattle.ruby_value.specs.SetOf.{set_of}
-use Rattle.ruby_value.specs.WithFields.{with_fields}
-use Rattle.ruby_value.specs.WithSet.{with_set}
-use Rattle.ruby_value.specs.WithoutLine.{without_line}
+use Rattle.ruby_value.specs.Prelude.{AreLinesOf, Cache, Line, fields_of, IsCache, made_recent, set_of, with_fields, with_set, without_line}
 use Rattle.ruby_value.proofs.CacheSets.{lines_push, lines_without, lines_with_fields, lines_recent, length_removed, length_recent, set_is, set_lines, lawful_with_set, lawful_empty}
 
 none_from : {X : Type 0} (o : Option X) → is_some o ≡ false → o ≡ None

@@ -10,7 +10,7 @@ use Rattle.std.specs.FinMap.{FinMap, get, insert, remove, len, from_entries, fin
 use Rattle.std.proofs.lemmas.Bool.{eq-eqb, ne_eqb, cases_eq}
 use Rattle.std.proofs.lemmas.Map.Keys.{IsDistinct-head, IsDistinct-tail}
 use Rattle.std.proofs.Common.{inl, inr}
-use Rattle.ruby_value.specs.WithAll.{with_all}
+use Rattle.ruby_value.specs.Prelude.{with_all}
 
 -- what a map of any order finds is what is looked up in its entries
 pub find_is_lookup : {K X : Type 0} (cmp : K → K → Ordering) (es : List (K × X)) (q : K) → find cmp q es ≡ lookup (is_at (cmp q)) es

@@ -3,9 +3,7 @@ use Rattle.std.proofs.Common.{◌≡◌, ℕ, Bool, true, false, Option, None, S
 use mathlib.Core.Bool.{false≢true}
 use Rattle.std.proofs.lemmas.Bool.Decides.{nat_tests}
 use Rattle.ruby_value.specs.declared.message.MsgNo.{MsgNo}
-use Rattle.ruby_value.specs.IsBefore.{IsBefore}
-use Rattle.ruby_value.specs.NumberBefore.{number_before}
-use Rattle.ruby_value.specs.Front.{comes_before, earlier, least, front, ComesBefore, IsFirstReady, IsFront}
+use Rattle.ruby_value.specs.Prelude.{IsBefore, number_before, comes_before, earlier, least, front, ComesBefore, IsFirstReady, IsFront}
 use Rattle.ruby_value.proofs.Contained.{Contains-cons_cases, Contains-cons_here, Contains-cons_there}
 
 pub number-comes : (a b : MsgNo) → number_before a b ≡ true → IsBefore a b

@@ -9,9 +9,7 @@ use Rattle.std.proofs.lemmas.List.Edits.{length-insert, get_or-insert_below, get
 use Rattle.std.proofs.lemmas.List.Kept.{AllPairs-from_increasing}
 use Rattle.std.proofs.lemmas.List.Sorted.{searched}
 use Rattle.std.proofs.Math.Seq.{drop-cons}
-use Rattle.ruby_value.specs.LeastFrom.{least_from}
-use Rattle.ruby_value.specs.WithMember.{with_member}
-use Rattle.ruby_value.specs.WithoutMember.{without_member}
+use Rattle.ruby_value.specs.Prelude.{least_from, with_member, without_member}
 
 -- the number stands at this place: smaller ones before it, greater ones after it
 pub record IsAt (xs : List ℕ) (m at : ℕ) : Type 0 where

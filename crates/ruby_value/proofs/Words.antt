@@ -12,10 +12,7 @@ use Rattle.std.proofs.lemmas.List.Kept.{AllPairs-cons, AllPairs-from_increasing}
 use Rattle.std.specs.List.{AllPairs}
 use Rattle.std.proofs.lemmas.Nat.{shr-shr, shr_below, shr_le}
 use Rattle.std.proofs.lemmas.Nat.Bits.{bit_at-trailing_zeros, bit_at-zero, bit_at-lt, same_from_bits_below, bit_at_above}
-use Rattle.ruby_value.specs.Bits.{bits_from, bits_of}
-use Rattle.ruby_value.specs.LeastFrom.{least_from}
-use Rattle.ruby_value.specs.WithMember.{with_member}
-use Rattle.ruby_value.specs.WithoutMember.{without_member}
+use Rattle.ruby_value.specs.Prelude.{bits_from, bits_of, least_from, with_member, without_member}
 use Rattle.ruby_value.proofs.Ordered.{AllPairs-append, AllPairs-nil, increasing_from_AllPairs, All-insert}
 
 module _ {X : Type 0} (test : X → Bool) where

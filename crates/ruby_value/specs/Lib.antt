@@ -36,3 +36,4 @@ pub mod WithMember
 pub mod WithSet
 pub mod WithoutLine
 pub mod WithoutMember
+pub mod Prelude

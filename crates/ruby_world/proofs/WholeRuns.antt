@@ -4,19 +4,13 @@ use Rattle.std.specs.List.{list_any}
 use Rattle.std.proofs.lemmas.Option.{same_Some}
 use Rattle.slicc_ast.specs.declared.tree.item.Tree.{Tree}
 use Rattle.run_journal.specs.declared.entry.Entry.{Entry}
-use Rattle.protocol_runs.specs.Alone.{IsAlone}
-use Rattle.protocol_runs.specs.RunRules.{Rules}
-use Rattle.protocol_runs.specs.Run.{IsRun, Ran}
-use Rattle.protocol_runs.specs.World.{World, is_held, opening, opening_place}
+use Rattle.protocol_runs.specs.Prelude.{IsAlone, Rules, IsRun, Ran, World, is_held, opening, opening_place}
 use Rattle.ruby_topology.specs.declared.topology.Topology.{Topology}
-use Rattle.one_worker.specs.RunLimits.{RunLimits}
+use Rattle.one_worker.specs.Prelude.{RunLimits, HasAddedAlone, InWorld, IsNobodyHeld, WorldView, opened, rules_in}
 use Rattle.protocol_meaning.specs.declared.record.RunRecord.{RunRecord}
-use Rattle.one_worker.specs.Adds.{HasAddedAlone}
 use Rattle.protocol_meaning.specs.Records as records
-use Rattle.one_worker.specs.Worlds.{InWorld, IsNobodyHeld, WorldView, opened, rules_in}
 use Rattle.one_worker.proofs.Views.{alone-all}
-use Rattle.sequencer.specs.Drive.{Drive}
-use Rattle.sequencer.specs.Seats.{Seat}
+use Rattle.sequencer.specs.Prelude.{Drive, Seat}
 
 none-held : {C : Type 0} (controllers : List C) → list_any is_held (map opening_place controllers) ≡ false
 none-held [] = refl

@@ -1,8 +1,7 @@
 //! A run by one worker, who is worker 0.
 ghost use Rattle.std.specs.Prelude.{◌≡◌, IfOk, OnOk, is_some};
-ghost use Rattle.one_worker.specs.Adds.{HasAddedAlone};
-ghost use Rattle.protocol_runs.specs.Run.{HasEnded};
-ghost use Rattle.one_worker.specs.Worlds.{InWorld, IsNobodyHeld};
+ghost use Rattle.one_worker.specs.Prelude.{HasAddedAlone, InWorld, IsNobodyHeld};
+ghost use Rattle.protocol_runs.specs.Prelude.{HasEnded};
 
 use one_worker::{WORKER, World, wake_all, world_after};
 use protocol_meaning::Protocol;

@@ -1,9 +1,8 @@
 //! A whole run by one worker, from its opening to its record.
 ghost use Rattle.std.specs.Prelude.{◌≡◌, ◌≤◌, IfOk, length};
-ghost use Rattle.ctl_face.specs.Fits.{last_cycle};
-ghost use Rattle.protocol_runs.specs.Alone.{IsAlone};
-ghost use Rattle.protocol_meaning.specs.Records.{IsWholeRunBy, rules_in};
-ghost use Rattle.protocol_meaning.specs.FitsPlan.{FitsPlan};
+ghost use Rattle.ctl_face.specs.Prelude.{last_cycle};
+ghost use Rattle.protocol_runs.specs.Prelude.{IsAlone};
+ghost use Rattle.protocol_meaning.specs.Prelude.{IsWholeRunBy, rules_in, FitsPlan};
 
 use crate::alone::run_alone;
 use one_worker::{RunLimits, World, into_record, runs_from_the_opening_are_alone};

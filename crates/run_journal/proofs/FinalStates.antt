@@ -18,9 +18,7 @@ use Rattle.ruby_value.proofs.Contained.{Contains-cons_cases}
 use Rattle.ruby_value.proofs.Ordered.{AllPairs-head, AllPairs-nil, AllPairs-tail}
 use Rattle.run_journal.specs.declared.entry.Entry.{Entry}
 use Rattle.run_journal.specs.declared.summary.Final.{Final}
-use Rattle.run_journal.specs.AreFinals.{AreFinals}
-use Rattle.run_journal.specs.IsBefore.{IsBefore}
-use Rattle.run_journal.specs.LastState.{last_state}
+use Rattle.run_journal.specs.Prelude.{AreFinals, IsBefore, last_state}
 use Rattle.run_journal.proofs.LastStates.{place_cmp}
 
 pub place_total : IsTotalOrder place_cmp

@@ -11,7 +11,7 @@ use Rattle.run_journal.specs.declared.entry.Entry.TheVariants.{Fired, Ended, Tur
 use Rattle.run_journal.specs.declared.entry.FireNote.{FireNote}
 use Rattle.ruby_value.specs.declared.message.Sent.{Sent}
 use Rattle.ruby_value.specs.declared.message.MsgNo.{MsgNo}
-use Rattle.run_journal.specs.LastState.{next_state}
+use Rattle.run_journal.specs.Prelude.{next_state}
 
 -- by controller and then by address
 abbrev pub place_cmp : ℕ × ℕ → ℕ × ℕ → Ordering

@@ -4,9 +4,7 @@ use Rattle.std.specs.List.{cons_option, filter_map, last_or}
 use Rattle.run_journal.specs.declared.entry.Entry.{Entry}
 use Rattle.run_journal.specs.declared.entry.Entry.TheVariants.{Fired, Ended, Turned}
 use Rattle.run_journal.specs.declared.summary.Final.{Final}
-use Rattle.run_journal.specs.AreFinals.{AreFinals}
-use Rattle.run_journal.specs.LastState.{next_state, last_state}
-use Rattle.run_journal.specs.PartOf.{is_of, part_of}
+use Rattle.run_journal.specs.Prelude.{AreFinals, next_state, last_state, is_of, part_of}
 
 -- an entry of another controller sets no state of this one
 sets_none : (c a : ℕ) (e : Entry) → is_of c e ≡ false → next_state c a e ≡ None

@@ -13,8 +13,7 @@ use Rattle.ruby_value.proofs.Entries.{find_is_lookup}
 use Rattle.run_journal.specs.declared.entry.Entry.{Entry}
 use Rattle.run_journal.specs.declared.entry.Entry.TheVariants.{Fired, Ended, Turned}
 use Rattle.run_journal.specs.declared.summary.Final.{Final}
-use Rattle.run_journal.specs.AreFinals.{AreFinals}
-use Rattle.run_journal.specs.LastState.{next_state}
+use Rattle.run_journal.specs.Prelude.{AreFinals, next_state}
 use Rattle.run_journal.proofs.FinalStates.{place_total, final_at, finals_of_entries}
 use Rattle.run_journal.proofs.LastStates.{place_cmp, takes_in}
 

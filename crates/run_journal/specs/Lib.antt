@@ -4,3 +4,4 @@ pub mod IsBefore
 pub mod LastState
 pub mod PartOf
 pub mod Tally
+pub mod Prelude

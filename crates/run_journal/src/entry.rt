@@ -1,5 +1,5 @@
 ghost use Rattle.std.specs.Prelude.{◌≡◌, IfOk};
-ghost use Rattle.run_journal.specs.PartOf.{is_of as is_of_controller};
+ghost use Rattle.run_journal.specs.PartOf.{is_of};
 
 use crate::{Fault, Finding, MsgNo, NoMemory, Sent, Seq, Verdict};
 use std::alloc::Global;
@@ -107,7 +107,7 @@ pub enum Entry {
 impl Entry {
     /// Whether the entry is one of this controller: a transition that it fired, or the end of a wake-up of it.
     pub fn is_of(&self, controller: u32) -> bool
-        ensures { result ≡ is_of_controller controller self.now }
+        ensures { result ≡ is_of controller self.now }
     {
         match self {
             Entry::Fired { controller: c, .. } => *c == controller,

@@ -1,7 +1,7 @@
 ghost use Rattle.std.specs.Prelude.{◌≡◌, map, IfOk};
 ghost use Rattle.std.specs.BTreeMap.{IsOrdered};
 ghost use Rattle.std.specs.Ordering.{nat_cmp, ordering_then};
-ghost use Rattle.run_journal.specs.AreFinals.{AreFinals};
+ghost use Rattle.run_journal.specs.Prelude.{AreFinals};
 
 use crate::{Entry, Final, NoMemory, Seq};
 use std::alloc::Global;

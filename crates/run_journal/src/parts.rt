@@ -1,5 +1,5 @@
 ghost use Rattle.std.specs.Prelude.{◌≡◌, IfOk};
-ghost use Rattle.run_journal.specs.PartOf.{part_of};
+ghost use Rattle.run_journal.specs.Prelude.{part_of};
 
 use crate::{Entry, NoMemory, Seq};
 use std::alloc::Global;

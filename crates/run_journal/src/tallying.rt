@@ -1,6 +1,6 @@
 // How many events of each kind a worker has in a history.
 ghost use Rattle.std.specs.Prelude.{◌≡◌, count_by};
-ghost use Rattle.run_journal.specs.Tally.{tally, is_by as is_event_by};
+ghost use Rattle.run_journal.specs.Tally.{tally, is_by};
 
 use crate::{Event, Tally};
 
@@ -20,7 +20,7 @@ pub enum EventKind {
 }
 
 fn is_by(kind: EventKind, worker: u32, e: &Event) -> bool
-    ensures { result ≡ is_event_by kind worker e.now }
+    ensures { result ≡ is_by kind worker e.now }
 {
     match (kind, e) {
         (EventKind::Takes, Event::Take { worker: w, .. })
@@ -33,7 +33,7 @@ fn is_by(kind: EventKind, worker: u32, e: &Event) -> bool
 }
 
 fn count(history: &[Event], kind: EventKind, worker: u32) -> u64
-    ensures { result ≡ count_by (is_event_by kind worker) history.now }
+    ensures { result ≡ count_by (is_by kind worker) history.now }
 {
     history.iter().filter(|e| is_by(kind, worker, e)).count() as u64
 }

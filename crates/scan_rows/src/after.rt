@@ -1,8 +1,8 @@
 // What a scan makes of a controller, and what is told of it.
 ghost use Rattle.std.specs.Prelude.{◌<◌, ◌≤◌, OnOk};
-ghost use Rattle.ctl_face.specs.Fits.{last_cycle};
-ghost use Rattle.ctl_store.specs.Kept.{ctl_of};
-ghost use Rattle.controller_rows.specs.Going.{GoesOn, IsEndOf};
+ghost use Rattle.ctl_face.specs.Prelude.{last_cycle};
+ghost use Rattle.ctl_store.specs.Prelude.{ctl_of};
+ghost use Rattle.controller_rows.specs.Prelude.{GoesOn, IsEndOf};
 
 use crate::left::{add_copies, add_lines, add_mail, add_requests};
 use controller_rows::{ScanEnd, apply, wake_again};

@@ -1,10 +1,8 @@
 // What is done to a controller before its scan.
 ghost use Rattle.std.specs.Prelude.{◌≡◌, ◌<◌, ◌≤◌, IfOk, OnOk};
-ghost use Rattle.ctl_face.specs.Fits.{last_cycle};
-ghost use Rattle.ctl_face.specs.LocalView.{SameScan};
-ghost use Rattle.ctl_store.specs.Drafted.{view_of};
-ghost use Rattle.ctl_store.specs.Kept.{ctl_of};
-ghost use Rattle.controller_rows.specs.Going.{GoesOn, IsDone};
+ghost use Rattle.ctl_face.specs.Prelude.{last_cycle, SameScan};
+ghost use Rattle.ctl_store.specs.Prelude.{view_of, ctl_of};
+ghost use Rattle.controller_rows.specs.Prelude.{GoesOn, IsDone};
 
 use controller_rows::apply;
 use ctl_face::{Local, Routes, Trouble, receives};

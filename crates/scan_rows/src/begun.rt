@@ -1,7 +1,7 @@
 // The controller whose scans are done: its store, with a request in its queue, and the routes to it and another of its machine.
 ghost use Rattle.std.specs.Prelude.{◌-◌, IfOk, IfSome};
-ghost use Rattle.ruby_value.specs.Requests.{IsRequest};
-ghost use Rattle.controller_rows.specs.Going.{GoesOn};
+ghost use Rattle.ruby_value.specs.Prelude.{IsRequest};
+ghost use Rattle.controller_rows.specs.Prelude.{GoesOn};
 
 use controller_rows::{Network, is_delivered, is_issued, message, opened};
 use ctl_face::{Fields, NoMemory, Routes};

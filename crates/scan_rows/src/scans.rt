@@ -1,6 +1,6 @@
 // Does the scans, and tells how each ends and what it leaves.
 ghost use Rattle.std.specs.Prelude.{◌-◌};
-ghost use Rattle.controller_rows.specs.Going.{GoesOn};
+ghost use Rattle.controller_rows.specs.Prelude.{GoesOn};
 
 use crate::after::add_after;
 use crate::before::{Before, make_ready};

@@ -1,17 +1,15 @@
 -- A scan ends as its ports answer, where it may fire.
 use Rattle.std.proofs.Common.{◌≡◌, ℕ, false, Result, Ok, Err, nat_le, refl}
 use Rattle.ruby_base.specs.declared.memory.NoMemory.{NoMemory}
-use Rattle.acts.specs.DoesAs.{itself}
-use Rattle.ctl_face.specs.LocalView.{LocalView}
-use Rattle.body_meaning.specs.Reading.{Reading}
-use Rattle.body_meaning.specs.declared.round.RoundEnd.{RoundEnd}
-use Rattle.body_meaning.specs.declared.tried.Tried.{Tried}
-use Rattle.body_meaning.specs.declared.tried.Tried.TheVariants.{Waits, Fires}
-use Rattle.body_meaning.specs.Round.{IsRoundOf}
-use Rattle.body_meaning.specs.Scan.{ports_tried, scan}
+use Rattle.acts.specs.Prelude.{itself}
+use Rattle.ctl_face.specs.Prelude.{LocalView}
+use Rattle.body_meaning.specs.Prelude.{Reading, IsRoundOf, ports_tried, scan}
+use Rattle.body_meaning.specs.declared.frame.RoundEnd.{RoundEnd}
+use Rattle.body_meaning.specs.declared.frame.Tried.{Tried}
+use Rattle.body_meaning.specs.declared.frame.Tried.TheVariants.{Waits, Fires}
 use Rattle.scan_walk.specs.declared.halt.Halt.{Halt}
 use Rattle.scan_walk.specs.declared.halt.Halt.TheVariants as halt
-use Rattle.scan_walk.specs.TriesAs.{IsEndOf, TriesAs}
+use Rattle.scan_walk.specs.Prelude.{IsEndOf, TriesAs}
 
 module _ (s : Reading) (limit done : ℕ) (few : nat_le limit done ≡ false) where
   pub round_is : (result : Result Tried Halt) (end : Result RoundEnd NoMemory) (v w : LocalView) → IsEndOf result end

@@ -2,15 +2,12 @@
 use Rattle.std.proofs.Common.{◌≡◌, ◌∙◌, ℕ, Bool, true, false, Result, Ok, Err, sym, subst, unwrap_or}
 use Rattle.ruby_symbols.specs.declared.machine.TransitionSymbol.{TransitionSymbol}
 use Rattle.ctl_face.specs.declared.trouble.Trouble.{Trouble}
-use Rattle.ctl_face.specs.LocalView.{LocalView}
-use Rattle.acts.specs.Acting.{Acting, either}
-use Rattle.acts.specs.DoesAs.{DoesAs, itself}
+use Rattle.ctl_face.specs.Prelude.{LocalView}
+use Rattle.acts.specs.Prelude.{Acting, either, DoesAs, itself}
 use Rattle.acts.proofs.Walk.{false_does, then_does, then_stops, true_does}
-use Rattle.body_meaning.specs.Reading.{Reading}
+use Rattle.body_meaning.specs.Prelude.{Reading, need, fired, is_short, is_stall_among, row_tried, waiting}
 use Rattle.body_meaning.specs.declared.thing.Trigger.{Trigger}
-use Rattle.body_meaning.specs.declared.tried.Tried.{Tried}
-use Rattle.body_meaning.specs.Actions.{need}
-use Rattle.body_meaning.specs.Transition.{fired, is_short, is_stall_among, row_tried, waiting}
+use Rattle.body_meaning.specs.declared.frame.Tried.{Tried}
 
 module _ (s : Reading) (t : Trigger) (state : ℕ) (row : TransitionSymbol) (u v w : LocalView) where
   abbrev shortness : Acting Bool

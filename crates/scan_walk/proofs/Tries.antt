@@ -5,15 +5,13 @@ use Rattle.ruby_value.specs.declared.fault.Fault.{Fault}
 use Rattle.run_journal.specs.declared.entry.StopAt.{StopAt}
 use Rattle.ctl_face.specs.declared.trouble.Trouble.{Trouble}
 use Rattle.ctl_face.specs.declared.trouble.Trouble.TheVariants as trouble
-use Rattle.ctl_face.specs.LocalView.{LocalView}
-use Rattle.acts.specs.Acting.{Acting, ends as ends_body, stops as stops_body, acts as acts_in, follow, run}
-use Rattle.acts.specs.DoesAs.{DoesAs}
-use Rattle.acts.specs.Done.{Done, does}
-use Rattle.body_meaning.specs.declared.tried.Known.{Known}
-use Rattle.body_meaning.specs.Trying.{Pair, Trying, ends, stops, acts, looks_up, follow_scan, run_scan, stop_at, then_try, with_known}
+use Rattle.ctl_face.specs.Prelude.{LocalView}
+use Rattle.acts.specs.Prelude.{Acting, ends as ends_body, stops as stops_body, acts as acts_in, follow, run, DoesAs, Done, does}
+use Rattle.body_meaning.specs.declared.frame.Known.{Known}
+use Rattle.body_meaning.specs.Prelude.{Pair, Trying, ends, stops, acts, looks_up, follow_scan, run_scan, stop_at, then_try, with_known}
 use Rattle.scan_walk.specs.declared.halt.Halt.{Halt}
 use Rattle.scan_walk.specs.declared.halt.Halt.TheVariants as halt
-use Rattle.scan_walk.specs.TriesAs.{TriesAs, told}
+use Rattle.scan_walk.specs.Prelude.{TriesAs, told}
 
 -- what comes after a part that was done
 abbrev after_part : {A B : Type 0} → Result (Done A) StopAt → (A → LocalView → Result (Done B) StopAt) → Result (Done B) StopAt

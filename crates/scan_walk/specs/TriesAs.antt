@@ -5,13 +5,13 @@ use Rattle.std.specs.Prelude.{◌≡◌, IsErr, Result, Ok, Err}
 use Rattle.ruby_base.specs.declared.memory.NoMemory.{NoMemory}
 use Rattle.ctl_face.specs.declared.trouble.Trouble.{Trouble}
 use Rattle.ctl_face.specs.declared.trouble.Trouble.TheVariants as trouble
-use Rattle.ctl_face.specs.LocalView.{LocalView}
-use Rattle.body_meaning.specs.declared.round.RoundEnd.{RoundEnd}
-use Rattle.body_meaning.specs.declared.round.RoundEnd.TheVariants as round
-use Rattle.body_meaning.specs.declared.tried.Known.{Known}
-use Rattle.body_meaning.specs.declared.tried.Tried.{Tried}
-use Rattle.body_meaning.specs.declared.tried.Tried.TheVariants.{Waits, Fires}
-use Rattle.body_meaning.specs.Trying.{Trying, run_scan, stop_at}
+use Rattle.ctl_face.specs.Prelude.{LocalView}
+use Rattle.body_meaning.specs.declared.frame.RoundEnd.{RoundEnd}
+use Rattle.body_meaning.specs.declared.frame.RoundEnd.TheVariants as round
+use Rattle.body_meaning.specs.declared.frame.Known.{Known}
+use Rattle.body_meaning.specs.declared.frame.Tried.{Tried}
+use Rattle.body_meaning.specs.declared.frame.Tried.TheVariants.{Waits, Fires}
+use Rattle.body_meaning.specs.Prelude.{Trying, run_scan, stop_at}
 use Rattle.scan_walk.specs.declared.halt.Halt.{Halt}
 use Rattle.scan_walk.specs.declared.halt.Halt.TheVariants as halt
 

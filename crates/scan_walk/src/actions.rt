@@ -1,11 +1,8 @@
 // The actions of a transition, and whether it has to wait for free lines.
 ghost use Rattle.std.specs.Prelude.{◌≡◌, ◌+◌, ◌<◌, [], ◌∷◌, length, MatchOption};
-ghost use Rattle.acts.specs.DoesAs.{DoesAs, itself};
-ghost use Rattle.body_meaning.specs.Each.{each};
-ghost use Rattle.body_meaning.specs.Reading.{reading};
-ghost use Rattle.statement_walk.specs.Few.{HasFew};
-ghost use Rattle.body_meaning.specs.Actions.{need};
-ghost use Rattle.body_meaning.specs.Transition.{action_done as action_done_is, is_among as is_among_is, is_short as is_short_is, is_stall_among as is_stall_among_is, table_short as table_short_is};
+ghost use Rattle.acts.specs.Prelude.{DoesAs, itself};
+ghost use Rattle.body_meaning.specs.Prelude.{each, reading, need, action_done, is_among, is_short, is_stall_among, table_short};
+ghost use Rattle.statement_walk.specs.Prelude.{HasFew};
 
 use acts::{Local, Trouble, free};
 use body_meaning::{About, Scope};
@@ -29,7 +26,7 @@ pub(crate) fn actions_done<T: Local>(
     local: &mut T,
 ) -> Result<About, Trouble>
     requires few { HasFew s.machine.now }
-    ensures { DoesAs itself (each (action_done_is (reading s.entry)) a actions.now) result
+    ensures { DoesAs itself (each (action_done (reading s.entry)) a actions.now) result
         (T.view local.old) (T.view local.new) }
 {
     match split(actions) {
@@ -47,7 +44,7 @@ fn table_short<T: Local>(
     table: u16,
     local: &T,
 ) -> Result<bool, Trouble>
-    ensures { DoesAs itself (table_short_is (need (reading s.entry) actions.now) table) result
+    ensures { DoesAs itself (table_short (need (reading s.entry) actions.now) table) result
         (T.view local.now) (T.view local.now) }
 {
     if !need_more(s, actions, table, 0) {
@@ -66,7 +63,7 @@ pub(crate) fn is_short<T: Local>(
     local: &T,
 ) -> Result<bool, Trouble>
     requires { table + length tables.now < 65536 }
-    ensures { DoesAs itself (is_short_is (need (reading s.entry) actions.now) table tables.now) result
+    ensures { DoesAs itself (is_short (need (reading s.entry) actions.now) table tables.now) result
         (T.view local.now) (T.view local.now) }
 {
     match split(tables) {
@@ -82,14 +79,14 @@ pub(crate) fn is_short<T: Local>(
 }
 
 pub(crate) fn is_among(n: u16, numbers: &[u16]) -> bool
-    ensures { result ≡ is_among_is n numbers.now }
+    ensures { result ≡ is_among n numbers.now }
 {
     numbers.contains(&n)
 }
 
 // Whether the machine's action for stalls is among these.
 pub(crate) fn is_stall_among(actions: &[u16], stall: Option<u16>) -> bool
-    ensures { result ≡ is_stall_among_is actions.now stall }
+    ensures { result ≡ is_stall_among actions.now stall }
 {
     match stall {
         None => false,

@@ -1,6 +1,6 @@
 // Where a scan ends before its end.
 ghost use Rattle.std.specs.Prelude.{◌≡◌};
-ghost use Rattle.scan_walk.specs.TriesAs.{told as told_of};
+ghost use Rattle.scan_walk.specs.TriesAs.{told};
 
 use acts::Trouble;
 use body_meaning::Known;
@@ -17,7 +17,7 @@ pub enum Halt {
 
 // What a body answers, where this is known of the transition.
 pub(crate) fn told<R>(k: Known, r: Result<R, Trouble>) -> Result<R, Halt>
-    ensures { result ≡ told_of k r }
+    ensures { result ≡ told k r }
 {
     match r {
         Ok(x) => Ok(x),

@@ -1,10 +1,8 @@
 // The in ports of a machine, one after another.
-ghost use Rattle.acts.specs.DoesAs.{itself};
-ghost use Rattle.body_meaning.specs.Reading.{reading};
-ghost use Rattle.statement_walk.specs.Few.{HasFew};
-ghost use Rattle.body_meaning.specs.Round.{IsRoundOf};
-ghost use Rattle.body_meaning.specs.Scan.{after_port as after_port_is, port_tried as port_tried_is, ports_tried as ports_tried_is, scan as scan_is};
-ghost use Rattle.scan_walk.specs.TriesAs.{IsEndOf, TriesAs};
+ghost use Rattle.acts.specs.Prelude.{itself};
+ghost use Rattle.body_meaning.specs.Prelude.{reading, IsRoundOf, after_port, port_tried, ports_tried, scan};
+ghost use Rattle.statement_walk.specs.Prelude.{HasFew};
+ghost use Rattle.scan_walk.specs.Prelude.{IsEndOf, TriesAs};
 
 use crate::actions::split;
 use crate::halt::{Halt, told};
@@ -23,7 +21,7 @@ fn after_port<T: Local>(
     local: &mut T,
 ) -> Result<Tried, Halt>
     requires few { HasFew s.machine.now }
-    ensures { TriesAs itself (after_port_is (reading s.entry) flow) result (T.view local.old)
+    ensures { TriesAs itself (after_port (reading s.entry) flow) result (T.view local.old)
         (T.view local.new) }
 {
     match flow {
@@ -40,7 +38,7 @@ fn port_tried<T: Local>(
     local: &mut T,
 ) -> Result<Tried, Halt>
     requires few { HasFew s.machine.now }
-    ensures { TriesAs itself (port_tried_is (reading s.entry) p.now) result (T.view local.old)
+    ensures { TriesAs itself (port_tried (reading s.entry) p.now) result (T.view local.old)
         (T.view local.new) }
 {
     let nothing = Known {
@@ -60,7 +58,7 @@ fn ports_tried<T: Local>(
     local: &mut T,
 ) -> Result<Tried, Halt>
     requires few { HasFew s.machine.now }
-    ensures { TriesAs itself (ports_tried_is (reading s.entry) ports.now) result (T.view local.old)
+    ensures { TriesAs itself (ports_tried (reading s.entry) ports.now) result (T.view local.old)
         (T.view local.new) }
 {
     match split(ports) {
@@ -94,7 +92,7 @@ pub fn scan<T: Local>(
     local: &mut T,
 ) -> Result<RoundEnd, NoMemory>
     requires few { HasFew s.machine.now }
-    ensures { IsRoundOf (scan_is (reading s.entry) limit fired (T.view local.old)) result
+    ensures { IsRoundOf (scan (reading s.entry) limit fired (T.view local.old)) result
         (T.view local.new) (T.view local.old) }
 {
     if limit <= fired {

@@ -1,11 +1,10 @@
 // What a `trigger` does.
 ghost use Rattle.std.specs.Prelude.{◌≡◌, None, find};
 ghost use Rattle.std.specs.Option.{option_copied};
-ghost use Rattle.acts.specs.DoesAs.{DoesAs, itself};
-ghost use Rattle.body_meaning.specs.Reading.{reading};
-ghost use Rattle.statement_walk.specs.Few.{HasFew};
-ghost use Rattle.body_meaning.specs.Transition.{about as about_is, fired as fired_is, is_for as is_for_is, known as known_is, row_tried as row_tried_is, try as try_is, waiting as waiting_is};
-ghost use Rattle.scan_walk.specs.TriesAs.{TriesAs};
+ghost use Rattle.acts.specs.Prelude.{DoesAs, itself};
+ghost use Rattle.body_meaning.specs.Prelude.{reading, about, fired, is_for, known, row_tried, try, waiting};
+ghost use Rattle.statement_walk.specs.Prelude.{HasFew};
+ghost use Rattle.scan_walk.specs.Prelude.{TriesAs};
 
 use crate::actions::{actions_done, is_among, is_short, is_stall_among};
 use crate::halt::{Halt, told};
@@ -17,7 +16,7 @@ use statement_walk::{permission_set, state_by, state_set};
 use std::alloc::Global;
 
 fn about(t: Trigger) -> About
-    ensures { result ≡ about_is t }
+    ensures { result ≡ about t }
 {
     About {
         address: t.address,
@@ -27,7 +26,7 @@ fn about(t: Trigger) -> About
 }
 
 fn known(t: Trigger, state: Option<u16>) -> Known
-    ensures { result ≡ known_is t state }
+    ensures { result ≡ known t state }
 {
     Known {
         address: Some(t.address),
@@ -37,20 +36,20 @@ fn known(t: Trigger, state: Option<u16>) -> Known
 }
 
 fn is_for(state: u16, event: u16, t: &TransitionSymbol) -> bool
-    ensures { result ≡ is_for_is state event t.now }
+    ensures { result ≡ is_for state event t.now }
 {
     is_among(state, &t.states) && is_among(event, &t.events)
 }
 
 // The first written transition for a state and an event.
 fn row_for(m: &MachineSymbols, state: u16, event: u16) -> Option<&TransitionSymbol>
-    ensures { option_copied result ≡ find (is_for_is state event) m.now.transitions }
+    ensures { option_copied result ≡ find (is_for state event) m.now.transitions }
 {
     m.transitions.iter().find(|t| is_for(state, event, t))
 }
 
 fn waiting<T: Local>(local: &mut T) -> Result<Tried, Trouble>
-    ensures { DoesAs itself waiting_is result (T.view local.old) (T.view local.new) }
+    ensures { DoesAs itself waiting result (T.view local.old) (T.view local.new) }
 {
     again(local)?;
     Ok(Tried::Waits)
@@ -66,7 +65,7 @@ fn fired<T: Local>(
     local: &mut T,
 ) -> Result<Tried, Trouble>
     requires few { HasFew s.machine.now }
-    ensures { DoesAs itself (fired_is (reading s.entry) t state next row.now) result (T.view local.old)
+    ensures { DoesAs itself (fired (reading s.entry) t state next row.now) result (T.view local.old)
         (T.view local.new) }
 {
     let a = actions_done(alloc, s, about(t), &row.actions, local)?;
@@ -89,7 +88,7 @@ fn row_tried<T: Local>(
     local: &mut T,
 ) -> Result<Tried, Trouble>
     requires few { HasFew s.machine.now }
-    ensures { DoesAs itself (row_tried_is (reading s.entry) t state row.now) result (T.view local.old)
+    ensures { DoesAs itself (row_tried (reading s.entry) t state row.now) result (T.view local.old)
         (T.view local.new) }
 {
     let short = is_short(s, &row.actions, 0, &s.machine.tables, local)?;
@@ -111,7 +110,7 @@ pub(crate) fn tried<T: Local>(
     local: &mut T,
 ) -> Result<Tried, Halt>
     requires few { HasFew s.machine.now }
-    ensures { TriesAs itself (try_is (reading s.entry) t) result (T.view local.old) (T.view local.new) }
+    ensures { TriesAs itself (try (reading s.entry) t) result (T.view local.old) (T.view local.new) }
 {
     let state = told(
         known(t, None),

@@ -7,8 +7,8 @@ use Rattle.std.specs.List.{All, AllPairs, filter, insert}
 use Rattle.std.specs.Bool.{nat_lt, nat_le}
 use Rattle.ruby_value.specs.declared.asked.Answer.{Answer}
 use Rattle.ruby_value.proofs.Ordered.{All-insert, AllPairs-insert}
-use Rattle.sequencer.specs.Kept.{NoLater, IsAnswer, AreAnswers}
-use Rattle.ruby_value.specs.Requests.{with_answer}
+use Rattle.sequencer.specs.Prelude.{NoLater, IsAnswer, AreAnswers}
+use Rattle.ruby_value.specs.Prelude.{with_answer}
 
 filter-all : {X : Type 0} (p : X → Bool) (xs : List X) → All (λ x. p x ≡ true) xs → filter p xs ≡ xs
 filter-all p [] all = refl

@@ -5,8 +5,8 @@ use Rattle.std.specs.Cmp.{nat_cmp_total, unsigned_tied}
 use Rattle.std.specs.FinMap as finite
 use Rattle.std.specs.List.{list_any}
 use Rattle.ruby_value.specs.declared.asked.Answer.{Answer}
-use Rattle.sequencer.specs.Callbacks.{FitCallbacks, after_callbacks}
-use Rattle.ruby_value.specs.Requests.{Requests, request_for, requests_with_answer}
+use Rattle.sequencer.specs.Prelude.{FitCallbacks, after_callbacks}
+use Rattle.ruby_value.specs.Prelude.{Requests, request_for, requests_with_answer}
 
 pub after_none : (r : Requests) → after_callbacks [] r ≡ r
 unfolding after_callbacks

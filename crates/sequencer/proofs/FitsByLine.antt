@@ -14,9 +14,8 @@ use Rattle.std.specs.List.{All, AllPairs}
 use Rattle.std.specs.Ordering.{nat_cmp, is_lt}
 use Rattle.ruby_value.specs.declared.asked.Asked.{Asked}
 use Rattle.ruby_value.proofs.Ordered.{AllPairs-nil}
-use Rattle.sequencer.specs.Kept.{AreRequests, ComesBefore}
-use Rattle.sequencer.specs.Reads.{by_line}
-use Rattle.ruby_value.specs.Requests.{FitsRequests, IsRequest, Requests}
+use Rattle.sequencer.specs.Prelude.{AreRequests, ComesBefore, by_line}
+use Rattle.ruby_value.specs.Prelude.{FitsRequests, IsRequest, Requests}
 
 abbrev FitsAt : ℕ → Asked → Type 0
 FitsAt line a = (a.line ≡ line) × IsRequest a

@@ -7,8 +7,8 @@ use Rattle.std.specs.Map.{lookup}
 use Rattle.std.specs.FinMap as finite
 use Rattle.ruby_value.specs.declared.asked.Asked.{Asked}
 use Rattle.ruby_value.proofs.Entries.{get_entries}
-use Rattle.sequencer.specs.Outstanding.{entry_of, outstanding_of}
-use Rattle.ruby_value.specs.Requests.{IsRequest}
+use Rattle.sequencer.specs.Prelude.{entry_of, outstanding_of}
+use Rattle.ruby_value.specs.Prelude.{IsRequest}
 
 abbrev FitsAt : ℕ → Asked → Type 0
 FitsAt line a = (a.line ≡ line) × IsRequest a

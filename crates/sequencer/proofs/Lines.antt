@@ -10,10 +10,8 @@ use Rattle.std.specs.FinMap as finite
 use Rattle.ruby_value.specs.declared.asked.Asked.{Asked}
 use Rattle.ruby_value.proofs.Entries.{get_entries, inserted, removed}
 use Rattle.ruby_value.proofs.Ordered.{AllPairs-head, AllPairs-tail}
-use Rattle.sequencer.specs.Kept.{AreRequests, ComesBefore}
-use Rattle.sequencer.specs.Outstanding.{entry_of, outstanding_of}
-use Rattle.sequencer.specs.Place.{IsPlaceOf}
-use Rattle.ruby_value.specs.Requests.{IsRequest}
+use Rattle.sequencer.specs.Prelude.{AreRequests, ComesBefore, entry_of, outstanding_of, IsPlaceOf}
+use Rattle.ruby_value.specs.Prelude.{IsRequest}
 use Rattle.std.proofs.lemmas.List.Quantifiers.{all_pairs_remove}
 
 any_default : (ys : List Asked) (i : ℕ) (d e : Asked) → i < length ys → get_or ys i d ≡ get_or ys i e

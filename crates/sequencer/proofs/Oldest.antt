@@ -11,9 +11,8 @@ use Rattle.std.specs.List.{All, AllPairs, filter}
 use Rattle.std.specs.Ordering.{nat_cmp, is_lt}
 use Rattle.ruby_value.specs.declared.asked.Asked.{Asked}
 use Rattle.ruby_value.proofs.Ordered.{AllPairs-head, AllPairs-tail}
-use Rattle.sequencer.specs.Kept.{ComesBefore}
-use Rattle.sequencer.specs.Outstanding.{entry_of, outstanding_of}
-use Rattle.ruby_value.specs.Requests.{first_of}
+use Rattle.sequencer.specs.Prelude.{ComesBefore, entry_of, outstanding_of}
+use Rattle.ruby_value.specs.Prelude.{first_of}
 
 both : (a b : Bool) → T a → T b → T (a && b)
 both true b p q = q

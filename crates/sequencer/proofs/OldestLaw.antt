@@ -9,10 +9,8 @@ use Rattle.ruby_value.specs.declared.asked.Asked.{Asked}
 use Rattle.ruby_value.proofs.Contained.{Contains-cons_cases, Contains-cons_here, Contains-cons_there}
 use Rattle.ruby_value.proofs.Entries.{get_entries}
 use Rattle.ruby_value.proofs.Ordered.{AllPairs-head, AllPairs-tail}
-use Rattle.sequencer.specs.Kept.{ComesBefore}
-use Rattle.sequencer.specs.Outstanding.{entry_of, outstanding_of}
-use Rattle.sequencer.specs.Reads.{IsOldest, IsNoLater, older, oldest_of}
-use Rattle.ruby_value.specs.Requests.{Requests}
+use Rattle.sequencer.specs.Prelude.{ComesBefore, entry_of, outstanding_of, IsOldest, IsNoLater, older, oldest_of}
+use Rattle.ruby_value.specs.Prelude.{Requests}
 use Rattle.sequencer.proofs.Lines.{request-first}
 
 abbrev OldestIn : List Asked → Option Asked → Type 0

@@ -5,11 +5,9 @@ use Rattle.std.proofs.lemmas.List.Elements.{All-get_or, All-set, All-weaker}
 use Rattle.std.proofs.lemmas.Option.{slice_get-map, slice_get_read}
 use Rattle.std.proofs.Math.Seq.{map-set_same}
 use Rattle.std.specs.List.{All, slice_get}
-use Rattle.ruby_value.specs.Roomy.{Roomy}
+use Rattle.ruby_value.specs.Prelude.{Roomy, Requests}
 use Rattle.sequencer.specs.declared.owned_seat.OwnedSeat.{OwnedSeat}
-use Rattle.sequencer.specs.OwnedSeats.{AreOwned, HasRoom, seat_of, seats_of}
-use Rattle.ruby_value.specs.Requests.{Requests}
-use Rattle.sequencer.specs.Seats.{changed_at, changed_seat}
+use Rattle.sequencer.specs.Prelude.{AreOwned, HasRoom, seat_of, seats_of, changed_at, changed_seat}
 use Rattle.sequencer.proofs.SeatsAfter.{apart-by, controllers}
 
 controllers-of : (items : List OwnedSeat) → controllers (seats_of items) ≡ map (λ (s : OwnedSeat). s.controller) items

@@ -14,9 +14,8 @@ use Rattle.ruby_value.proofs.Ordered.{AllPairs-head, AllPairs-nil, AllPairs-tail
 use Rattle.ruby_value.specs.declared.asked.Answer.{Answer}
 use Rattle.ruby_value.specs.declared.asked.Asked.{Asked}
 use Rattle.sequencer.specs.declared.issued.Issued.{Issued}
-use Rattle.sequencer.specs.Drive.{CanIssue, Drive, IsLawful, Taken, after_drive, after_issuing, after_taking}
-use Rattle.ruby_value.specs.Requests.{FitsRequests, IsRequest, Requests, first_of, rest_of, with_request, without_first_answer}
-use Rattle.sequencer.specs.Seats.{AreApart, FitSeats, FitsSeat, Seat, Seating, changed_at, changed_seat, first_answer_at, with_issued, with_seat, with_seats, without_answer_at}
+use Rattle.sequencer.specs.Prelude.{CanIssue, Drive, IsLawful, Taken, after_drive, after_issuing, after_taking, AreApart, FitSeats, FitsSeat, Seat, Seating, changed_at, changed_seat, first_answer_at, with_issued, with_seat, with_seats, without_answer_at}
+use Rattle.ruby_value.specs.Prelude.{FitsRequests, IsRequest, Requests, first_of, rest_of, with_request, without_first_answer}
 
 abbrev pub controllers : List Seat → List ℕ
 controllers seats = map (λ (s : Seat). s.controller) seats

@@ -5,7 +5,7 @@ use Rattle.ruby_value.specs.declared.asked.Answer.{Answer}
 use Rattle.ruby_value.specs.declared.asked.BackFault.{BackFault}
 use Rattle.sequencer.specs.declared.fault.CallbackFault.{CallbackFault}
 use Rattle.sequencer.specs.declared.fault.CallbackFault.TheVariants.{Refused, NoMemory}
-use Rattle.ruby_value.specs.Requests.{Requests, request_for, requests_with_answer}
+use Rattle.ruby_value.specs.Prelude.{Requests, request_for, requests_with_answer}
 
 unfoldable pub after_callbacks : List Answer → Requests → Requests
 after_callbacks [] r = r

@@ -7,8 +7,7 @@ use Rattle.ruby_value.specs.declared.asked.Answer.{Answer}
 use Rattle.ruby_value.specs.declared.fault.Finding.{Finding}
 use Rattle.ruby_value.specs.declared.fault.Finding.TheVariants.{Incoherent, Deadlock, Passed}
 use Rattle.sequencer.specs.declared.issued.Issued.{Issued}
-use Rattle.ruby_value.specs.Lines.{IsLine}
-use Rattle.ruby_value.specs.Requests.{IsRequest}
+use Rattle.ruby_value.specs.Prelude.{IsLine, IsRequest}
 use Rattle.sequencer.specs.Seats.{Seat, Seating, first_answer_at, outstanding_at, with_issued, with_seats, without_answer_at}
 
 -- an answer that was taken at a seat

@@ -4,7 +4,7 @@ use Rattle.std.specs.Prelude.{ℕ, ◌+◌, ◌≤◌, ◌<◌, List, length}
 use Rattle.std.specs.List.{All, AllPairs}
 use Rattle.ruby_value.specs.declared.asked.Answer.{Answer}
 use Rattle.ruby_value.specs.declared.asked.Asked.{Asked}
-use Rattle.ruby_value.specs.Requests.{IsRequest}
+use Rattle.ruby_value.specs.Prelude.{IsRequest}
 
 abbrev pub ComesBefore : Asked → Asked → Type 0
 ComesBefore a b = a.line < b.line

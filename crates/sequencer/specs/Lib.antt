@@ -9,3 +9,4 @@ pub mod PlainDriver
 pub mod PlainLaw
 pub mod Reads
 pub mod Seats
+pub mod Prelude

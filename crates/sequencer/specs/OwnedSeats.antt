@@ -2,9 +2,8 @@
 use Rattle.std.specs.Prelude.{ℕ, ◌+◌, ◌≤◌, ◌<◌, ◌^◌, IfSome, List, length, map}
 use Rattle.std.specs.List.{All, AllPairs}
 use Rattle.std.specs.Option.{option_map}
-use Rattle.ruby_value.specs.Roomy.{Roomy}
+use Rattle.ruby_value.specs.Prelude.{Roomy, Requests}
 use Rattle.sequencer.specs.declared.owned_seat.OwnedSeat.{OwnedSeat}
-use Rattle.ruby_value.specs.Requests.{Requests}
 use Rattle.sequencer.specs.Seats.{AreApart, Seat}
 
 -- the seat with the requests of its sequencer, if it has one

@@ -6,7 +6,7 @@ use Rattle.ruby_value.specs.declared.asked.Asked.{Asked}
 use Rattle.sequencer.specs.declared.issued.Issued.{Issued}
 use Rattle.sequencer.specs.Drive.{CanIssue, IsLawful}
 use Rattle.sequencer.specs.PlainDriver.{plain_drive, plain_load, plain_needs}
-use Rattle.ruby_value.specs.Requests.{IsRequest}
+use Rattle.ruby_value.specs.Prelude.{IsRequest}
 use Rattle.sequencer.specs.Seats.{FitSeats, Seat, Seating, outstanding_at}
 
 abbrev plain_issue : ℕ → Issued

@@ -4,7 +4,7 @@ use Rattle.std.specs.Prelude.{◌≡◌, ◌<◌, ◌≤◌, ◌⊎◌, ℕ, Boo
 use Rattle.std.specs.FinMap as map
 use Rattle.std.specs.List.{filter}
 use Rattle.ruby_value.specs.declared.asked.Asked.{Asked}
-use Rattle.ruby_value.specs.Requests.{Requests, request_for, first_of}
+use Rattle.ruby_value.specs.Prelude.{Requests, request_for, first_of}
 
 -- the outstanding requests by ascending line
 abbrev pub by_line : Requests → List Asked

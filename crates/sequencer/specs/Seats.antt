@@ -10,7 +10,7 @@ use Rattle.ruby_value.specs.declared.asked.Asked.{Asked}
 use Rattle.sequencer.specs.contracts.issued.Issued as issued
 use Rattle.sequencer.specs.declared.issued.Issued.{Issued}
 use Rattle.sequencer.specs.Reads.{next_after}
-use Rattle.ruby_value.specs.Requests.{FitsRequests, Requests, first_of, request_for, requests_code, with_request, without_first_answer}
+use Rattle.ruby_value.specs.Prelude.{FitsRequests, Requests, first_of, request_for, requests_code, with_request, without_first_answer}
 
 pub record Seat : Type 0 where
   pub controller : ℕ

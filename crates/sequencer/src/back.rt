@@ -1,6 +1,5 @@
 ghost use Rattle.std.specs.Prelude.{◌≡◌};
-ghost use Rattle.ruby_value.specs.Callback.{is_store, stored_block};
-ghost use Rattle.ruby_value.specs.Requests.{IsRequest};
+ghost use Rattle.ruby_value.specs.Prelude.{is_store, stored_block, IsRequest};
 
 use crate::{Ask, Asked, Block};
 

@@ -1,9 +1,8 @@
 ghost use Rattle.std.specs.Prelude.{◌≡◌, ◌≤◌, ◌==◌, Some, [], ◌∷◌, ◌++◌, IfSome, OnOk, OnErr};
 ghost use Rattle.std.specs.List.{list_any};
-ghost use Rattle.ruby_value.specs.declared.asked.Answer.{Answer as AnswerRecord};
-ghost use Rattle.ruby_value.specs.Callback.{block_after_write, read_back, write_back};
+ghost use Rattle.ruby_value.specs.declared.asked.Answer.{Answer};
+ghost use Rattle.ruby_value.specs.Prelude.{block_after_write, read_back, write_back, IsRequest, Requests, request_for, requests_with_answer};
 ghost use Rattle.sequencer.specs.Callbacks.{CallsBack, FitCallbacks, after_callbacks};
-ghost use Rattle.ruby_value.specs.Requests.{IsRequest, Requests, request_for, requests_with_answer};
 
 use crate::back::{is_store, stored_block};
 use crate::{Answer, Asked, BackFault, Block, CallbackFault, NoMemory, Sequencer};
@@ -143,7 +142,7 @@ impl Callbacks {
 
 // Whether one of the answers is of this line.
 fn has_line(answers: &[Answer], line: u64) -> bool
-    ensures { result ≡ list_any (λ (a : AnswerRecord). a.asked.line == line) answers.now }
+    ensures { result ≡ list_any (λ (a : Answer). a.asked.line == line) answers.now }
 {
     answers.iter().any(|a| a.asked.line == line)
 }

@@ -5,11 +5,8 @@ ghost use Rattle.std.specs.FinMap as map;
 ghost use Rattle.std.specs.List.{All, AllPairs};
 ghost use Rattle.std.specs.Option.{option_copied};
 ghost use Rattle.std.specs.VecDeque.{deque_len, deque_capacity};
-ghost use Rattle.sequencer.specs.Kept.{AreAnswers, AreRequests, ComesBefore, IsAnswer, NoLater};
-ghost use Rattle.sequencer.specs.Outstanding.{outstanding_of};
-ghost use Rattle.sequencer.specs.Place.{IsPlaceOf};
-ghost use Rattle.sequencer.specs.Reads.{is_above, oldest_of};
-ghost use Rattle.ruby_value.specs.Requests.{IsRequest, first_of, with_answer};
+ghost use Rattle.sequencer.specs.Prelude.{AreAnswers, AreRequests, ComesBefore, IsAnswer, NoLater, outstanding_of, IsPlaceOf, is_above, oldest_of};
+ghost use Rattle.ruby_value.specs.Prelude.{IsRequest, first_of, with_answer};
 
 use crate::{Answer, Asked};
 use std::collections::VecDeque;

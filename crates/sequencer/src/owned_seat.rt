@@ -2,7 +2,7 @@ ghost use Rattle.std.specs.Prelude.{◌≡◌, ◌≤◌, ◌+◌, ◌↔◌, �
 ghost use Rattle.std.specs.Option.{option_and_then};
 ghost use Rattle.sequencer.specs.OwnedSeats.{HasRoom, seat_of};
 ghost use Rattle.sequencer.specs.Reads.{next_after};
-ghost use Rattle.ruby_value.specs.Requests.{IsRequest, first_of, request_for, with_request, without_first_answer};
+ghost use Rattle.ruby_value.specs.Prelude.{IsRequest, first_of, request_for, with_request, without_first_answer};
 ghost use Rattle.sequencer.specs.Seats.{FitsSeat, changed_seat};
 
 use crate::{Answer, Asked, IssueFault, NoMemory, Sequencer};

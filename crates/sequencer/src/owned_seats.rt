@@ -19,7 +19,7 @@ pub struct OwnedSeats {
 
 impl Model for OwnedSeats {
     ghost use Rattle.std.specs.Prelude.{length, vec_capacity};
-    ghost use Rattle.ruby_value.specs.Roomy.{Roomy, roomy_code};
+    ghost use Rattle.ruby_value.specs.Prelude.{Roomy, roomy_code};
     ghost use Rattle.sequencer.specs.OwnedSeats.{AreOwned, seats_of};
     ghost use Rattle.sequencer.specs.Seats.{Seating, seating_code};
 

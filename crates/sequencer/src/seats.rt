@@ -1,6 +1,5 @@
 ghost use Rattle.std.specs.Prelude.{◌≡◌, ◌≤◌, ◌<◌, ◌+◌, Some, IfSome, IsNone, IsTrue, OnOk, length, ◌↔◌, false};
-ghost use Rattle.ruby_value.specs.Roomy.{Roomy};
-ghost use Rattle.ruby_value.specs.Requests.{IsRequest};
+ghost use Rattle.ruby_value.specs.Prelude.{Roomy, IsRequest};
 ghost use Rattle.sequencer.specs.Seats.{Seating, controller_at, first_answer_at, next_at, outstanding_at, with_issued, without_answer_at};
 
 use crate::{Answer, Asked, NoMemory};

@@ -1,9 +1,8 @@
 ghost use Rattle.std.specs.Prelude.{◌≡◌, ◌≢◌, ◌≤◌, ◌<◌, ◌+◌, ◌↔◌, None, Some, Err, IfSome, IsSome, OnOk, OnErr};
 ghost use Rattle.std.specs.Option.{option_copied};
 ghost use Rattle.sequencer.specs.Back.{Finishes};
-ghost use Rattle.ruby_value.specs.Callback.{block_after_write, read_back, write_back};
+ghost use Rattle.ruby_value.specs.Prelude.{block_after_write, read_back, write_back, FitsRequests, IsRequest, first_of, no_requests, request_for, requests_with_answer, with_request, without_first_answer};
 ghost use Rattle.sequencer.specs.Reads.{IsOldest, next_after, oldest};
-ghost use Rattle.ruby_value.specs.Requests.{FitsRequests, IsRequest, first_of, no_requests, request_for, requests_with_answer, with_request, without_first_answer};
 
 use crate::back::{is_store, stored_block};
 use crate::order::{next_in, oldest_of, put_answer, put_request, request_in, take_request};
@@ -25,10 +24,9 @@ pub struct Sequencer {
 impl Model for Sequencer {
     ghost use Rattle.std.specs.Prelude.{vec_capacity};
     ghost use Rattle.std.specs.VecDeque.{deque_capacity};
-    ghost use Rattle.ruby_value.specs.Roomy.{Roomy, roomy_code};
+    ghost use Rattle.ruby_value.specs.Prelude.{Roomy, roomy_code, Requests, requests_code};
     ghost use Rattle.sequencer.specs.Kept.{IsKept};
     ghost use Rattle.sequencer.specs.Outstanding.{outstanding_of};
-    ghost use Rattle.ruby_value.specs.Requests.{Requests, requests_code};
 
     ghost Value = { Roomy Requests };
 

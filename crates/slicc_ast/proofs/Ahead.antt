@@ -1,14 +1,8 @@
 -- Where the reader's next token is one that by the table begins what it reads, that token may indeed stand there.
 use Rattle.std.proofs.Common.{◌≡◌, ℕ, suc, true, false, cond, List, [], ◌∷◌, ◌⊎◌, inl, inr}
 use Rattle.std.proofs.lemmas.Bool.{and_parts, false≢true, both_ways}
-use Rattle.slicc_ast.specs.Kinds.{has}
-use Rattle.slicc_ast.specs.Grammar.{Row, Rows, Grammar, nestings_of, is_nullable, first_of}
-use Rattle.slicc_ast.specs.Grammar.Row.{done, form, maybe}
-use Rattle.slicc_ast.specs.Grammar.Rows.{next}
-use Rattle.slicc_ast.specs.Matches.{Begins, Matches}
-use Rattle.slicc_ast.specs.Faults.{Stop}
-use Rattle.slicc_ast.specs.Reader.{Stops}
-use Rattle.slicc_ast.specs.Reader.Stops.{read, on, outside, taken, refused, chosen, by_default, unformed, present, absent, again, enough, inside, too_deep, unopened}
+use Rattle.slicc_ast.specs.Prelude.{has, Row, Rows, Grammar, nestings_of, is_nullable, first_of, done, form, maybe, next, Begins, Matches, Stop, Stops, read, taken, refused, chosen, by_default, unformed, too_deep, unopened}
+use Rattle.slicc_ast.specs.Reader.Stops.{on, outside, present, absent, again, enough, inside}
 use Rattle.slicc_ast.proofs.KindSets.{in_either, from_cond}
 use Rattle.slicc_ast.proofs.Starts.{RowsStart, Starts}
 

@@ -1,6 +1,6 @@
 -- An expression with another one in a box, as a program makes it, is what the pattern says.
 use Rattle.std.specs.Prelude.{◌≡◌, refl, ℕ, Option, List}
-use Rattle.slicc_ast.specs.Boxes.{Operation', Not', Negate', Postfix', IsValid', IsInvalid', Cast', Group'}
+use Rattle.slicc_ast.specs.Prelude.{Operation', Not', Negate', Postfix', IsValid', IsInvalid', Cast', Group'}
 use Rattle.slicc_ast.specs.declared.tree.expression.Expr.TheBlock as block
 use Rattle.slicc_ast.specs.declared.tree.expression.Expr.TheViews as views
 use Rattle.slicc_ast.specs.declared.tree.span.Span.{Span}

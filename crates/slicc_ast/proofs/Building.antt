@@ -2,13 +2,8 @@
 -- Where one token ahead decides, it is one. The kinds of the tokens match the rows.
 use Rattle.std.proofs.Common.{◌≡◌, ℕ, true, List, [], ◌∷◌, map, Some, refl, sym, subst}
 use Rattle.std.specs.List.{slice_get}
-use Rattle.slicc_ast.specs.Kinds.{has}
-use Rattle.slicc_ast.specs.Grammar.{Row, Rows, Grammar}
-use Rattle.slicc_ast.specs.Grammar.Row.{done, token, form, maybe, many}
-use Rattle.slicc_ast.specs.Grammar.Rows.{end, next}
-use Rattle.slicc_ast.specs.Matches.{Matches}
-use Rattle.slicc_ast.specs.Matches.Extent.{Whole}
-use Rattle.slicc_ast.specs.Predictive.{IsPredictive}
+use Rattle.slicc_ast.specs.Prelude.{has, Row, Rows, Grammar, done, form, maybe, many, end, next, Matches, Whole, IsPredictive}
+use Rattle.slicc_ast.specs.Grammar.Row.{token}
 use Rattle.slicc_ast.proofs.Tables.{one_row}
 use Rattle.slicc_ast.proofs.Forced.{IsSound, into_form, into_rest, into_part, into_end, into_again, not_both, not_both_many}
 use Rattle.slicc_ast.proofs.FirstFault.{form_sound}

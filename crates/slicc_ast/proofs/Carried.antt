@@ -1,15 +1,7 @@
 -- Where a list stops is carried over a step of the reader: a step that takes a token, and one that takes none.
 use Rattle.std.proofs.Common.{◌≡◌, ℕ, zero, suc, ◌+◌, ◌≤◌, Bool, true, false, cond, List, [], ◌∷◌, ◌++◌, refl, sym, subst, ap, ◌∙◌, ◌⊎◌, inl, inr, arith, append-nil}
 use Rattle.std.proofs.lemmas.Bool.{both_ways}
-use Rattle.slicc_ast.specs.Kinds.{has}
-use Rattle.slicc_ast.specs.Grammar.{Row, Rows, Grammar, nestings_of}
-use Rattle.slicc_ast.specs.Matches.{Begins, Derives, Extent, Matches}
-use Rattle.slicc_ast.specs.Matches.Extent.{Whole, Front}
-use Rattle.slicc_ast.specs.Matches.Matches.{stopped}
-use Rattle.slicc_ast.specs.Faults.{Stop, IsWithin, IsLongest, IsStop}
-use Rattle.slicc_ast.specs.Faults.Stop.{Bad, Deep}
-use Rattle.slicc_ast.specs.Faults.IsStop.{one_too_deep, whole, opener_too_deep, not_viable, too_short}
-use Rattle.slicc_ast.specs.Reader.{refusal}
+use Rattle.slicc_ast.specs.Prelude.{has, Row, Rows, Grammar, nestings_of, Begins, Derives, Extent, Matches, Whole, Front, stopped, Stop, IsWithin, IsLongest, IsStop, Bad, Deep, one_too_deep, whole, opener_too_deep, not_viable, too_short, refusal}
 
 -- two lists with a first element
 pub first_same : (a b : ℕ) (xs ys : List ℕ) → a ∷ xs ≡ b ∷ ys → a ≡ b

@@ -3,13 +3,9 @@
 use Rattle.std.proofs.Common.{◌≡◌, ◌↔◌, ℕ, ◌==◌, Bool, true, false, ◌&&◌, List, [], ◌∷◌, ◌++◌, Some, refl, arith}
 use Rattle.std.specs.List.{slice_get, list_all}
 use Rattle.std.proofs.lemmas.Bool.{and_parts, or_left, false≢true}
-use Rattle.slicc_ast.specs.Kinds.{has}
-use Rattle.slicc_ast.specs.Grammar.{Row, Rows, Grammar}
-use Rattle.slicc_ast.specs.Grammar.Row.{done, token, form, maybe, many, nested}
-use Rattle.slicc_ast.specs.Grammar.Rows.{end, next, up}
-use Rattle.slicc_ast.specs.Matches.{Matches, Derives, IsViable}
-use Rattle.slicc_ast.specs.Matches.Extent.{Whole, Front}
-use Rattle.slicc_ast.specs.Matches.Matches.{stopped, ended, one, alternative, present, absent, again, enough, inside, on, outside}
+use Rattle.slicc_ast.specs.Prelude.{has, Row, Rows, Grammar, done, form, maybe, many, nested, end, next, up, Matches, Derives, IsViable, Whole, Front, stopped, ended, one, alternative}
+use Rattle.slicc_ast.specs.Grammar.Row.{token}
+use Rattle.slicc_ast.specs.Matches.Matches.{present, absent, again, enough, inside, on, outside}
 use Rattle.slicc_ast.proofs.Tables.{all_at}
 use Rattle.slicc_ast.proofs.Fronts.{front_of}
 

@@ -1,10 +1,8 @@
 -- One token ahead decides in the grammar: the test of each form computes.
 use Rattle.std.proofs.Common.{◌≡◌, true, refl, arith}
 use Rattle.std.specs.List.{Contains}
-use Rattle.slicc_ast.specs.Predictive.{is_predictive, IsPredictive}
-use Rattle.slicc_ast.specs.Form.{Form, all_forms}
-use Rattle.slicc_ast.specs.Form.Form.{file, item, enumeration, states, structure, member, member_end, functional_end, pair, machine, machine_name, parameter, literal, declaration, declaration_end, named_end, body, out_port, in_port, action, transition, transition_end, names, formals, formal, block, statement, statement_end, conditional, otherwise, expression, conjunction, equality, order, sum, product, unary, postfix, primary, constant, opening, name_end, suffix, arguments, balanced_part}
-use Rattle.slicc_ast.specs.Table.{table}
+use Rattle.slicc_ast.specs.Prelude.{is_predictive, IsPredictive, Form, all_forms, file, member_end, functional_end, machine_name, declaration, declaration_end, named_end, body, transition_end, statement, statement_end, conditional, otherwise, expression, conjunction, equality, order, sum, product, unary, postfix, primary, constant, opening, name_end, arguments, table}
+use Rattle.slicc_ast.specs.Form.Form.{item, enumeration, states, structure, member, pair, machine, parameter, literal, out_port, in_port, action, transition, names, formals, formal, block, suffix, balanced_part}
 
 pub one_token_decides : IsPredictive table
 one_token_decides file = refl

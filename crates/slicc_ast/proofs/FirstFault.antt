@@ -2,16 +2,9 @@
 use Rattle.std.proofs.Common.{◌≡◌, ℕ, suc, ◌+◌, ◌≤◌, true, false, List, [], ◌∷◌, Some, refl, sym, subst, inl, inr, arith}
 use Rattle.std.specs.List.{slice_get}
 use Rattle.std.proofs.lemmas.Bool.{false≢true, both_ways, cases_Bool, and_left, and_from}
-use Rattle.slicc_ast.specs.Kinds.{has, is_ahead, are_disjoint}
-use Rattle.slicc_ast.specs.Grammar.{Row, Rows, Grammar, nestings_of, is_nullable, first_of}
-use Rattle.slicc_ast.specs.Grammar.Row.{done, token, form, maybe, many, nested}
-use Rattle.slicc_ast.specs.Grammar.Rows.{end, next, up}
-use Rattle.slicc_ast.specs.Matches.{Begins, Derives, Extent, Matches}
-use Rattle.slicc_ast.specs.Matches.Extent.{Whole, Front}
-use Rattle.slicc_ast.specs.Faults.{Stop, IsStop, IsFirstFault}
-use Rattle.slicc_ast.specs.Predictive.{IsPredictive}
-use Rattle.slicc_ast.specs.Reader.{refusal, Stops}
-use Rattle.slicc_ast.specs.Reader.Stops.{read, on, outside, taken, refused, chosen, by_default, unformed, present, absent, again, enough, inside, too_deep, unopened}
+use Rattle.slicc_ast.specs.Prelude.{has, is_ahead, are_disjoint, Row, Rows, Grammar, nestings_of, is_nullable, first_of, done, form, maybe, many, nested, end, next, up, Begins, Derives, Extent, Matches, Whole, Front, Stop, IsStop, IsFirstFault, IsPredictive, refusal, Stops, read, taken, refused, chosen, by_default, unformed, too_deep, unopened}
+use Rattle.slicc_ast.specs.Grammar.Row.{token}
+use Rattle.slicc_ast.specs.Reader.Stops.{on, outside, present, absent, again, enough, inside}
 use Rattle.slicc_ast.proofs.Tables.{one_empty, one_row}
 use Rattle.slicc_ast.proofs.Starts.{nullable_of, at_most, stays_open}
 use Rattle.slicc_ast.proofs.Forced.{IsSound, into_form, into_rest, into_part, into_end, into_again, into_nested, decided_maybe, decided_many, goes_in, goes_by, goes_again, goes_past, goes_chosen, goes_by_default, goes_nowhere}

@@ -1,9 +1,8 @@
 -- A tree's tokens before those behind it, by recursion over its outline.
 use Rattle.std.proofs.Common.{◌≡◌, ℕ, List, ◌∷◌, ◌++◌, map, refl, sym, ap, ◌∙◌, append_assoc}
 use Rattle.std.proofs.lemmas.List.{map-append}
-use Rattle.slicc_ast.specs.Outline.{Outline, node, Parts, none, token, part, provided, kinds_of, kinds_in}
-use Rattle.slicc_ast.specs.TokenKinds.{kind_of}
-use Rattle.slicc_ast.specs.Spelled.{spelling}
+use Rattle.slicc_ast.specs.Outline.{token}
+use Rattle.slicc_ast.specs.Prelude.{Outline, node, Parts, none, part, provided, kinds_of, kinds_in, kind_of, spelling}
 
 abbrev mutual
   pub follow : Outline → List ℕ → List ℕ

@@ -3,14 +3,8 @@
 use Rattle.std.proofs.Common.{◌≡◌, ℕ, true, false, not, cond, List, [], ◌∷◌, ◌++◌, Some, sym, subst, ◌⊎◌, inl, inr}
 use Rattle.std.specs.List.{slice_get}
 use Rattle.std.proofs.lemmas.Bool.{and_parts, both_ways, not-true}
-use Rattle.slicc_ast.specs.Kinds.{has, are_disjoint}
-use Rattle.slicc_ast.specs.Grammar.{Row, Rows, Grammar, is_nullable, first_of, further_of}
-use Rattle.slicc_ast.specs.Grammar.Row.{form, maybe, many, nested}
-use Rattle.slicc_ast.specs.Grammar.Rows.{end, next, up}
-use Rattle.slicc_ast.specs.Matches.{Extent, Matches}
-use Rattle.slicc_ast.specs.Matches.Extent.{Whole}
-use Rattle.slicc_ast.specs.Matches.Matches.{alternative, present, absent, again, enough}
-use Rattle.slicc_ast.specs.Predictive.{is_decided, IsPredictive}
+use Rattle.slicc_ast.specs.Prelude.{has, are_disjoint, Row, Rows, Grammar, is_nullable, first_of, further_of, form, maybe, many, nested, end, next, up, Extent, Matches, Whole, alternative, is_decided, IsPredictive}
+use Rattle.slicc_ast.specs.Matches.Matches.{present, absent, again, enough}
 use Rattle.slicc_ast.proofs.KindSets.{in_left, in_right, of_subset, of_disjoint, in_cond}
 use Rattle.slicc_ast.proofs.Tables.{agrees_at, and_four, and_five, one_first, one_empty, one_row}
 use Rattle.slicc_ast.proofs.Starts.{RowsStart, Starts, starts_of, nullable_of}

@@ -1,13 +1,7 @@
 -- Fronts of lists: what a row begins with it begins with up to any place; where a list stops is one place, for one reason.
 use Rattle.std.proofs.Common.{◌≡◌, ℕ, ◌≤◌, ◌<◌, true, List, [], ◌∷◌, ◌++◌, refl, sym, subst, ◌∙◌, arith, append-nil, append_assoc}
-use Rattle.slicc_ast.specs.Kinds.{has}
-use Rattle.slicc_ast.specs.Grammar.{Row, Rows, Grammar}
-use Rattle.slicc_ast.specs.Matches.{Begins, Derives, Extent, IsViable, Matches}
-use Rattle.slicc_ast.specs.Matches.Extent.{Front}
-use Rattle.slicc_ast.specs.Matches.Matches.{stopped, ended, one, alternative, present, absent, again, enough, inside, on, outside}
-use Rattle.slicc_ast.specs.Faults.{Stop, IsFirstFault, IsWithin, IsLongest, IsOpenerTooDeep, IsStop}
-use Rattle.slicc_ast.specs.Faults.Stop.{Passed, Bad, Deep, Short}
-use Rattle.slicc_ast.specs.Faults.IsStop.{one_too_deep, whole, opener_too_deep, not_viable, too_short}
+use Rattle.slicc_ast.specs.Prelude.{has, Row, Rows, Grammar, Begins, Derives, Extent, IsViable, Matches, Front, stopped, ended, one, alternative, Stop, IsFirstFault, IsWithin, IsLongest, IsOpenerTooDeep, IsStop, Passed, Bad, Deep, Short, one_too_deep, whole, opener_too_deep, not_viable, too_short}
+use Rattle.slicc_ast.specs.Matches.Matches.{present, absent, again, enough, inside, on, outside}
 use Rattle.slicc_ast.proofs.Carried.{first_same, rest_same, no_element}
 
 pub front_of : {F : Type 0} (g : Grammar F) {x : Extent} {row : Row F} {rows : Rows F} {tokens : List ℕ} {nestings : ℕ} → Matches g x row rows tokens nestings → (front rest : List ℕ) → tokens ≡ front ++ rest → Begins g row rows front

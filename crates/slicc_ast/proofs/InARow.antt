@@ -1,12 +1,7 @@
 -- Lists of two rows, one behind the other, are lists of the one and then lists of the other.
 use Rattle.std.proofs.Common.{◌≡◌, ◌↔◌, ℕ, List, [], ◌∷◌, ◌++◌, refl, sym, subst, ap, ◌⊎◌, inl, inr}
-use Rattle.slicc_ast.specs.Grammar.{Row, Rows, Grammar, nestings_of}
-use Rattle.slicc_ast.specs.Grammar.Row.{many}
-use Rattle.slicc_ast.specs.Grammar.Rows.{end, next, up}
-use Rattle.slicc_ast.specs.Matches.{Begins, Derives, Extent, Matches}
-use Rattle.slicc_ast.specs.Matches.Extent.{Whole, Front}
-use Rattle.slicc_ast.specs.Matches.Matches.{stopped, ended, one, alternative, present, absent, again, enough, inside, on, outside}
-use Rattle.slicc_ast.specs.Same.{joined}
+use Rattle.slicc_ast.specs.Prelude.{Row, Rows, Grammar, nestings_of, many, end, next, up, Begins, Derives, Extent, Matches, Whole, Front, stopped, ended, one, alternative, joined}
+use Rattle.slicc_ast.specs.Matches.Matches.{present, absent, again, enough, inside, on, outside}
 use Rattle.slicc_ast.proofs.Joining.{merge, part}
 
 -- the first rows are the second with the row behind them

@@ -3,23 +3,14 @@ use Rattle.std.proofs.Common.{◌≡◌, ℕ, zero, suc, ◌≤◌, ◌==◌, tr
 use Rattle.std.proofs.lemmas.Bool.{or_cases, or_left, or_right}
 use Rattle.slicc_ast.specs.declared.tree.token.Word.TheVariants.{Transition, Machine, If, Else}
 use Rattle.slicc_ast.specs.declared.tree.token.Sign.TheVariants.{Comma, OpenParenthesis, CloseParenthesis, Equals}
-use Rattle.slicc_ast.specs.Kinds.{has}
-use Rattle.slicc_ast.specs.Grammar.{Row, Rows}
-use Rattle.slicc_ast.specs.Grammar.Row.{done, form, maybe, many}
-use Rattle.slicc_ast.specs.Grammar.Rows.{up}
-use Rattle.slicc_ast.specs.Matches.{Extent, Matches}
-use Rattle.slicc_ast.specs.Matches.Matches.{stopped, one, again, enough}
-use Rattle.slicc_ast.specs.Same.{Covers, joined}
+use Rattle.slicc_ast.specs.Prelude.{has, Row, Rows, done, form, maybe, many, up, Extent, Matches, stopped, one, Covers, joined, Form, member_end, functional_end, machine_name, declaration, declaration_end, named_end, transition_end, statement, statement_end, conditional, otherwise, expression, conjunction, equality, order, sum, product, unary, postfix, primary, opening, name_end, other_name, machine_type, functional_name, word_kind, sign_kind, ◌▸◌, of, optional, repeated, names_of, machine_type_name, value, string, comma, colon, semicolon, assign, parentheses, braces, sums, orders, equalities, conjunctions, disjunctions, operators, written, table}
+use Rattle.slicc_ast.specs.Matches.Matches.{again, enough}
 use Rattle.slicc_ast.proofs.KindSets.{in_either}
 use Rattle.slicc_ast.proofs.Joining.{merge}
 use Rattle.slicc_ast.proofs.Rewriting.{exchange_within}
 use Rattle.slicc_ast.proofs.Translating.{To, Each, IsFormCovered, covers_by, covered_by_itself, then_to, fold_to, form_to, token_to, either_to, maybe_to, to_present, to_absent, many_to, nested_to, end_to}
-use Rattle.slicc_ast.specs.Form.{Form}
-use Rattle.slicc_ast.specs.Form.Form.{member, member_end, functional_end, pair, machine, machine_name, parameter, declaration, declaration_end, named_end, transition, transition_end, names, formals, block, statement, statement_end, conditional, otherwise, expression, conjunction, equality, order, sum, product, unary, postfix, primary, opening, name_end, suffix}
-use Rattle.slicc_ast.specs.TokenKinds.{other_name, machine_type, functional_name, word_kind, sign_kind}
-use Rattle.slicc_ast.specs.Parts.{◌▸◌, of, optional, repeated, word, sign, names_of, name, machine_type_name, value, string, comma, colon, semicolon, assign, star, parentheses, braces, pairs, sums, orders, equalities, conjunctions, disjunctions, operators}
-use Rattle.slicc_ast.specs.Written.{written}
-use Rattle.slicc_ast.specs.Table.{table}
+use Rattle.slicc_ast.specs.Form.Form.{member, pair, machine, parameter, transition, names, formals, block, suffix}
+use Rattle.slicc_ast.specs.Parts.{word, sign, name, star, pairs}
 
 -- any name is a plain one or that of a skipped function; or it is `MachineType` or another
 pub plain_or_skipped : (kind : ℕ) → has names_of kind ≡ true → (has (other_name ∷ machine_type ∷ []) kind ≡ true) ⊎ (has (functional_name ∷ []) kind ≡ true)

@@ -2,18 +2,11 @@
 use Rattle.std.proofs.Common.{◌≡◌, ℕ, true, List, [], ◌∷◌, refl}
 use Rattle.slicc_ast.specs.declared.tree.token.Word.TheVariants.{Transition, Machine, If, Else}
 use Rattle.slicc_ast.specs.declared.tree.token.Sign.TheVariants.{Comma, OpenParenthesis, CloseParenthesis, Equals}
-use Rattle.slicc_ast.specs.Kinds.{is_subset}
-use Rattle.slicc_ast.specs.Grammar.{Row, Rows}
-use Rattle.slicc_ast.specs.Grammar.Row.{done, token, form, maybe, many}
-use Rattle.slicc_ast.specs.Grammar.Rows.{up}
-use Rattle.slicc_ast.specs.Same.{Covers, joined}
+use Rattle.slicc_ast.specs.Prelude.{is_subset, Row, Rows, done, form, maybe, many, up, Covers, joined, Form, member_end, functional_end, machine_name, declaration, declaration_end, named_end, transition_end, statement, statement_end, conditional, otherwise, expression, conjunction, equality, order, sum, product, unary, postfix, primary, constant, opening, name_end, other_name, machine_type, functional_name, word_kind, sign_kind, ◌▸◌, of, optional, repeated, names_of, type, plain_name, skipped_name, machine_type_name, value, string, comma, colon, semicolon, assign, parentheses, braces, products, sums, orders, equalities, conjunctions, disjunctions, operators, written, table}
+use Rattle.slicc_ast.specs.Grammar.Row.{token}
 use Rattle.slicc_ast.proofs.Translating.{To, Each, IsFormCovered, covers_by, covered_by_itself, then_to, fold_to, form_to, token_to, wider_to, maybe_to, to_present, to_absent, to_again, to_enough, nested_to, end_to, form_end_to, maybe_end_to}
-use Rattle.slicc_ast.specs.Form.{Form}
-use Rattle.slicc_ast.specs.Form.Form.{member, member_end, functional_end, pair, machine, machine_name, parameter, declaration, declaration_end, named_end, transition, transition_end, names, formals, block, statement, statement_end, conditional, otherwise, expression, conjunction, equality, order, sum, product, unary, postfix, primary, constant, opening, name_end, suffix}
-use Rattle.slicc_ast.specs.TokenKinds.{other_name, machine_type, functional_name, word_kind, sign_kind}
-use Rattle.slicc_ast.specs.Parts.{◌▸◌, of, optional, repeated, word, sign, names_of, name, type, plain_name, skipped_name, machine_type_name, value, string, comma, colon, semicolon, assign, star, parentheses, braces, pairs, products, sums, orders, equalities, conjunctions, disjunctions, operators}
-use Rattle.slicc_ast.specs.Written.{written}
-use Rattle.slicc_ast.specs.Table.{table}
+use Rattle.slicc_ast.specs.Form.Form.{member, pair, machine, parameter, transition, names, formals, block, suffix}
+use Rattle.slicc_ast.specs.Parts.{word, sign, name, star, pairs}
 
 abbrev plain_kinds : List ℕ
 plain_kinds = other_name ∷ machine_type ∷ []

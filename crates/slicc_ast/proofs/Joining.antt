@@ -1,13 +1,9 @@
 -- A row with another right behind it matches what the two joined to one do; so a table whose alternatives another covers
 -- has no lists but those of the other.
 use Rattle.std.proofs.Common.{◌≡◌, ℕ, suc, List, [], refl, sym, subst, ap}
-use Rattle.slicc_ast.specs.Grammar.{Row, Rows, Grammar, nestings_of}
-use Rattle.slicc_ast.specs.Grammar.Row.{done, token, form, maybe, many, nested}
-use Rattle.slicc_ast.specs.Grammar.Rows.{next, up}
-use Rattle.slicc_ast.specs.Matches.{Extent, Matches}
-use Rattle.slicc_ast.specs.Matches.Extent.{Front}
-use Rattle.slicc_ast.specs.Matches.Matches.{stopped, ended, one, alternative, present, absent, again, enough, inside, on, outside}
-use Rattle.slicc_ast.specs.Same.{Covers, HaveSameLists, joined}
+use Rattle.slicc_ast.specs.Prelude.{Row, Rows, Grammar, nestings_of, done, form, maybe, many, nested, next, up, Extent, Matches, Front, stopped, ended, one, alternative, Covers, HaveSameLists, joined}
+use Rattle.slicc_ast.specs.Grammar.Row.{token}
+use Rattle.slicc_ast.specs.Matches.Matches.{present, absent, again, enough, inside, on, outside}
 
 -- somewhere among the rows two are joined
 data AreJoined {F : Type 0} : Rows F → Rows F → Type 0 where

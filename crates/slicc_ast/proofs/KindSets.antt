@@ -1,7 +1,7 @@
 -- What is in a set of kinds, a joined one, and one that is part of another or apart from it.
 use Rattle.std.proofs.Common.{◌≡◌, ℕ, ◌==◌, Bool, true, false, not, cond, List, [], ◌∷◌, ◌++◌, refl, subst, ◌⊎◌, inl, inr}
 use Rattle.std.proofs.lemmas.Bool.{or_cases, or_left, or_right, and_parts, eqb-true, both_ways, not-true, false≢true}
-use Rattle.slicc_ast.specs.Kinds.{has, is_subset, are_disjoint}
+use Rattle.slicc_ast.specs.Prelude.{has, is_subset, are_disjoint}
 
 pub in_left : (xs ys : List ℕ) (kind : ℕ) → has xs kind ≡ true → has (xs ++ ys) kind ≡ true
 in_left [] ys kind is = absurd (false≢true is)

@@ -7,26 +7,12 @@ use Rattle.slicc_ast.specs.declared.tree.token.Sign.TheVariants.{CloseParenthesi
 use Rattle.slicc_ast.specs.declared.tree.expression.Operator.{Operator}
 use Rattle.slicc_ast.specs.declared.tree.expression.Operator.TheVariants.{Or, And, Equal, Unequal, Less, Greater, LessOrEqual, GreaterOrEqual, Plus, Minus, Times}
 use Rattle.slicc_ast.specs.declared.tree.expression.Expr.{Expr, Number, True, False, Nothing, Variable, Member, Call', New, Row_of-Expr, end_of-Expr, more_of-Expr, Row_of-Operand, end_of-Operand, more_of-Operand, Row_of-Suffix, end_of-Suffix, more_of-Suffix}
-use Rattle.slicc_ast.specs.Boxes.{Operation', Not', Negate', Postfix', IsValid', IsInvalid', Cast', Group'}
+use Rattle.slicc_ast.specs.Prelude.{Operation', Not', Negate', Postfix', IsValid', IsInvalid', Cast', Group', is_allowed, are_allowed, expr, level_of, row_level, has_suffix, operator_sign, operator_level, operand_row, suffix_row, args_row, more_args_row, has, Row, Rows, done, form, maybe, many, end, up, Derives, Matches, Whole, ended, one, joined, Form, expression, conjunction, equality, order, sum, product, unary, postfix, primary, constant, name_kind, machine_type, functional_name, other_name, sign_kind, names_of, of, comma, ◌▸◌, parentheses, optional, string, written, spelling}
 use Rattle.slicc_ast.specs.declared.tree.expression.Suffix.{Suffix, Field, Method', Index}
-use Rattle.slicc_ast.specs.Outline.{is_allowed, are_allowed}
-use Rattle.slicc_ast.specs.Expressions.{expr, suffix, level_of, row_level, has_suffix, operator_sign, operator_level, operand_row, suffix_row, args_row, more_args_row}
-use Rattle.slicc_ast.specs.Kinds.{has}
-use Rattle.slicc_ast.specs.Grammar.{Row, Rows}
-use Rattle.slicc_ast.specs.Grammar.Row.{done, form, maybe, many}
-use Rattle.slicc_ast.specs.Grammar.Rows.{end, up}
-use Rattle.slicc_ast.specs.Matches.{Derives, Matches}
-use Rattle.slicc_ast.specs.Matches.Extent.{Whole}
-use Rattle.slicc_ast.specs.Matches.Matches.{ended, one, absent, enough, inside, outside}
-use Rattle.slicc_ast.specs.Same.{joined}
+use Rattle.slicc_ast.specs.Expressions.{suffix}
+use Rattle.slicc_ast.specs.Matches.Matches.{absent, enough, inside, outside}
 use Rattle.slicc_ast.proofs.Translating.{fold_to, to_present, to_again}
-use Rattle.slicc_ast.specs.Form.{Form}
-use Rattle.slicc_ast.specs.Form.Form.{expression, conjunction, equality, order, sum, product, unary, postfix, primary, constant}
-use Rattle.slicc_ast.specs.TokenKinds.{name_kind, machine_type, functional_name, other_name, sign_kind}
-use Rattle.slicc_ast.specs.Parts.{names_of, of, comma, ◌▸◌, parentheses, optional, string}
-use Rattle.slicc_ast.specs.Written.{written}
 use Rattle.slicc_ast.proofs.Followed.{follow, follow_parts, follow-spelling}
-use Rattle.slicc_ast.specs.Spelled.{spelling}
 
 pub name_is_one : (text : List ℕ) → has names_of (name_kind text) ≡ true
 name_is_one text =

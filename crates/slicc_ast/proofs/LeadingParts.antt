@@ -11,26 +11,17 @@ use Rattle.slicc_ast.specs.declared.tree.token.Sign.TheVariants.{OpenBrace, Clos
 use Rattle.slicc_ast.specs.declared.tree.balanced.Part.{Part, Token, Parentheses', Brackets', Braces', Row_of-Part, end_of-Part, more_of-Part}
 use Rattle.slicc_ast.specs.declared.tree.declaration.Formal.{Formal}
 use Rattle.slicc_ast.specs.declared.tree.declaration.Pair.{Pair}
-use Rattle.slicc_ast.specs.declared.tree.declaration.Pair.TheVariants.{Named as NamedPair, Bare}
+use Rattle.slicc_ast.specs.declared.tree.declaration.Pair.TheVariants.{Named, Bare}
 use Rattle.slicc_ast.specs.declared.tree.declaration.PairValue.{PairValue}
 use Rattle.slicc_ast.specs.declared.tree.declaration.PairValue.TheVariants.{Quoted as QuotedValue, Number as NumberValue, Name as NameValue}
 use Rattle.slicc_ast.specs.declared.tree.name.Name.{Name}
-use Rattle.slicc_ast.specs.Outline.{Parts, none, are_allowed}
-use Rattle.slicc_ast.specs.Names.{star, is_loose, balanced_part, balanced_row, balanced_list}
-use Rattle.slicc_ast.specs.Declarations.{pair, pair_value, pair_list, formal, more_formals, formal_list, optional_name, is_skipped}
-use Rattle.slicc_ast.specs.Kinds.{has}
-use Rattle.slicc_ast.specs.Grammar.{Row, Rows}
-use Rattle.slicc_ast.specs.Grammar.Row.{done, form, maybe, many}
-use Rattle.slicc_ast.specs.Grammar.Rows.{up}
-use Rattle.slicc_ast.specs.Matches.{Matches}
-use Rattle.slicc_ast.specs.Matches.Extent.{Whole}
-use Rattle.slicc_ast.specs.Matches.Matches.{one, absent, enough, inside, outside}
+use Rattle.slicc_ast.specs.Prelude.{Parts, none, are_allowed, is_loose, balanced_row, balanced_list, pair_value, pair_list, more_formals, formal_list, optional_name, is_skipped, has, Row, Rows, done, form, maybe, many, up, Matches, Whole, one, Form, kind_of, name_kind, machine_type, functional_name, other_name, number, quoted, word_kind, sign_kind, names_of, of, ◌▸◌, unbracketed, comma, written}
+use Rattle.slicc_ast.specs.Names.{star, balanced_part}
+use Rattle.slicc_ast.specs.Declarations.{pair, formal}
+use Rattle.slicc_ast.specs.Matches.Matches.{absent, enough, inside, outside}
 use Rattle.slicc_ast.proofs.KindSets.{in_right}
 use Rattle.slicc_ast.proofs.Translating.{fold_to, to_present, to_again}
-use Rattle.slicc_ast.specs.Form.{Form}
-use Rattle.slicc_ast.specs.TokenKinds.{kind_of, name_kind, machine_type, functional_name, other_name, number, quoted, word_kind, sign_kind}
-use Rattle.slicc_ast.specs.Parts.{names_of, of, ◌▸◌, unbracketed, comma, name as name_part, star as star_part, pairs as pairs_part, balanced as balanced_parts}
-use Rattle.slicc_ast.specs.Written.{written}
+use Rattle.slicc_ast.specs.Parts.{name, star as star_part, pairs, balanced}
 use Rattle.slicc_ast.proofs.Followed.{follow, follow_parts}
 use Rattle.slicc_ast.proofs.Leading.{name_is_one, close}
 
@@ -140,7 +131,7 @@ mutual
   row_leads (more_of-Part first row) allowed r S rest o m =
       part_leads first (balanced_row row) allowed r S rest o (λ later. row_leads row later r S rest o m)
 
-pub balanced_leads : (ps : List Part) → are_allowed (balanced_list ps) ≡ true → (r : Row Form) (S : Rows Form) (rest : List ℕ) (o : ℕ) → Fits r S rest o → Fits (balanced_parts r) S (follow_parts (balanced_list ps) rest) o
+pub balanced_leads : (ps : List Part) → are_allowed (balanced_list ps) ≡ true → (r : Row Form) (S : Rows Form) (rest : List ℕ) (o : ℕ) → Fits r S rest o → Fits (balanced r) S (follow_parts (balanced_list ps) rest) o
 balanced_leads [] allowed r S rest o m = enough m
 balanced_leads (first ∷ others) allowed r S rest o m =
     part_leads first (balanced_list others) allowed r S rest o (λ later. balanced_leads others later r S rest o m)
@@ -154,27 +145,27 @@ value_leads (NumberValue n) r S rest o m = one refl m
 value_leads (NameValue n) r S rest o m = one (in_right (quoted ∷ number ∷ []) names_of (name_kind n.text) (name_is_one n.text)) m
 
 pair_leads : (p : Pair) (r : Row Form) (S : Rows Form) (rest : List ℕ) (o : ℕ) → Fits r S rest o → Fits (form Form.pair r) S (follow (pair p) rest) o
-pair_leads (NamedPair key value span) r S rest o m =
+pair_leads (Named key value span) r S rest o m =
     fold_to written Form.pair 0 refl Whole _ o (one (name_is_one key.text) (one refl (value_leads value r S rest o m)))
 pair_leads (Bare text span) r S rest o m = fold_to written Form.pair 1 refl Whole _ o (one refl m)
 
-pub pairs_lead : (ps : List Pair) (r : Row Form) (S : Rows Form) (rest : List ℕ) (o : ℕ) → Fits r S rest o → Fits (pairs_part r) S (follow_parts (pair_list ps) rest) o
+pub pairs_lead : (ps : List Pair) (r : Row Form) (S : Rows Form) (rest : List ℕ) (o : ℕ) → Fits r S rest o → Fits (pairs r) S (follow_parts (pair_list ps) rest) o
 pairs_lead [] r S rest o m = enough m
 pairs_lead (first ∷ others) r S rest o m =
-    to_again written one_pair r Whole _ o (one refl (pair_leads first (pairs_part r) S _ o (pairs_lead others r S rest o m)))
+    to_again written one_pair r Whole _ o (one refl (pair_leads first (pairs r) S _ o (pairs_lead others r S rest o m)))
 
 pub star_leads : (b : Bool) (parts : Parts) (r : Row Form) (S : Rows Form) (rest : List ℕ) (o : ℕ) → Fits r S (follow_parts parts rest) o → Fits (maybe (star_part done) r) S (follow_parts (star b parts) rest) o
 star_leads true parts r S rest o m = to_present written (star_part done) r Whole _ o (one refl m)
 star_leads false parts r S rest o m = absent m
 
-named_leads : (n : Option Name) (r : Row Form) (S : Rows Form) (rest : List ℕ) (o : ℕ) → Fits r S rest o → Fits (maybe (name_part done) r) S (follow_parts (optional_name n none) rest) o
+named_leads : (n : Option Name) (r : Row Form) (S : Rows Form) (rest : List ℕ) (o : ℕ) → Fits r S rest o → Fits (maybe (name done) r) S (follow_parts (optional_name n none) rest) o
 named_leads None r S rest o m = absent m
-named_leads (Some n) r S rest o m = to_present written (name_part done) r Whole _ o (one (name_is_one n.text) m)
+named_leads (Some n) r S rest o m = to_present written (name done) r Whole _ o (one (name_is_one n.text) m)
 
 formal_leads : (f : Formal) (r : Row Form) (S : Rows Form) (rest : List ℕ) (o : ℕ) → Fits r S rest o → Fits (form Form.formal r) S (follow (formal f) rest) o
 formal_leads f r S rest o m =
     fold_to written Form.formal 0 refl Whole _ o (one (name_is_one f.kind.text)
-    (star_leads f.has_star (optional_name f.name none) (maybe (name_part done) r) S rest o (named_leads f.name r S rest o m)))
+    (star_leads f.has_star (optional_name f.name none) (maybe (name done) r) S rest o (named_leads f.name r S rest o m)))
 
 abbrev one_formal : Row Form
 one_formal = (comma ▸ of Form.formal) done

@@ -1,29 +1,18 @@
 -- What a statement's or a block's tree spells, before what stands behind it.
 use Rattle.std.proofs.Common.{◌≡◌, ℕ, true, List, [], ◌∷◌, map, Some, None, refl, subst, ◌∙◌, append-nil}
 use Rattle.std.proofs.lemmas.Bool.{and_parts}
-use Rattle.slicc_ast.specs.declared.tree.token.Word.TheVariants.{If as IfWord, Else as ElseWord}
+use Rattle.slicc_ast.specs.declared.tree.token.Word.TheVariants.{If as IfWord, Else}
 use Rattle.slicc_ast.specs.declared.tree.token.Sign.TheVariants.{OpenBrace}
 use Rattle.slicc_ast.specs.declared.tree.expression.Expr.{Expr}
 use Rattle.slicc_ast.specs.declared.tree.statement.Block.{Block}
 use Rattle.slicc_ast.specs.declared.tree.statement.PrintWord.TheVariants.{Dprintf, AppendTransitionComment}
 use Rattle.slicc_ast.specs.declared.tree.statement.If.{If, If', Held-If-otherwise, None', Some', Row_of-ElseIf, end_of-ElseIf, more_of-ElseIf}
 use Rattle.slicc_ast.specs.declared.tree.statement.Stmt.{Stmt, Declare, Assign, Evaluate, Return, If as IfStmt, Peek', Enqueue', StallAndWait, CheckAllocate, Error, Assert, Print, Row_of-Stmt, end_of-Stmt, more_of-Stmt}
-use Rattle.slicc_ast.specs.Outline.{Parts, none, is_allowed, are_allowed, kinds_in}
-use Rattle.slicc_ast.specs.Names.{balanced_list}
-use Rattle.slicc_ast.specs.Expressions.{expr}
-use Rattle.slicc_ast.specs.Declarations.{pair_list}
-use Rattle.slicc_ast.specs.Statements.{stmt, if_outline, else_if_row, else_part, stmt_row, stmt_list, block_end, block}
-use Rattle.slicc_ast.specs.Grammar.{Row, Rows}
-use Rattle.slicc_ast.specs.Grammar.Row.{done, form, maybe, many}
-use Rattle.slicc_ast.specs.Grammar.Rows.{end, up}
-use Rattle.slicc_ast.specs.Matches.{Derives}
-use Rattle.slicc_ast.specs.Matches.Extent.{Whole}
-use Rattle.slicc_ast.specs.Matches.Matches.{ended, one, absent, enough, inside, outside}
+use Rattle.slicc_ast.specs.Prelude.{Parts, none, is_allowed, are_allowed, kinds_in, balanced_list, expr, pair_list, stmt, if_outline, else_if_row, else_part, stmt_row, stmt_list, block_end, Row, Rows, done, form, maybe, many, end, up, Derives, Whole, ended, one, Form, kind_of, sign_kind, of, ◌▸◌, comma, semicolon, assign, parentheses, written}
+use Rattle.slicc_ast.specs.Statements.{block}
+use Rattle.slicc_ast.specs.Matches.Matches.{absent, enough, inside, outside}
 use Rattle.slicc_ast.proofs.Translating.{fold_to, to_present, to_again}
-use Rattle.slicc_ast.specs.Form.{Form}
-use Rattle.slicc_ast.specs.TokenKinds.{kind_of, sign_kind}
-use Rattle.slicc_ast.specs.Parts.{of, ◌▸◌, comma, semicolon, assign, word, parentheses}
-use Rattle.slicc_ast.specs.Written.{written}
+use Rattle.slicc_ast.specs.Parts.{word}
 use Rattle.slicc_ast.proofs.Followed.{follow, follow_parts, follow_parts-spelling}
 use Rattle.slicc_ast.proofs.Leading.{name_is_one, close, expr_leads, as_expression}
 use Rattle.slicc_ast.proofs.LeadingParts.{Fits, close_brace, balanced_leads, pairs_lead}
@@ -35,10 +24,10 @@ abbrev statement_part : Row Form
 statement_part = form Form.statement done
 
 abbrev else_ifs : Row Form
-else_ifs = (word ElseWord ▸ word IfWord ▸ parentheses (of Form.expression) ▸ of Form.block) done
+else_ifs = (word Else ▸ word IfWord ▸ parentheses (of Form.expression) ▸ of Form.block) done
 
 abbrev last_else : Row Form
-last_else = (word ElseWord ▸ of Form.block) done
+last_else = (word Else ▸ of Form.block) done
 
 in_block : (r : Row Form) (S : Rows Form) (inner : List ℕ) (o : ℕ) → Fits (many statement_part close_brace) (up r S) inner o → Fits (form Form.block r) S (sign_kind OpenBrace ∷ inner) o
 in_block r S inner o m = fold_to written Form.block 0 refl Whole (sign_kind OpenBrace ∷ inner) o (inside refl m)

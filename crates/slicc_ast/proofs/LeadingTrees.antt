@@ -4,7 +4,7 @@ use Rattle.std.specs.Str.{bytes_eq}
 use Rattle.std.proofs.lemmas.Bool.{and_parts, not-true, false≢true, or_cases}
 use Rattle.std.proofs.lemmas.Slice.Eq.{bytes_eq-Decides}
 use Rattle.slicc_ast.specs.declared.tree.token.Sign.TheVariants.{OpenBrace, OpenParenthesis, CloseParenthesis, Comma, Colon}
-use Rattle.slicc_ast.specs.declared.tree.token.Word.TheVariants.{Protocol as ProtocolWord}
+use Rattle.slicc_ast.specs.declared.tree.token.Word.TheVariants.{Protocol}
 use Rattle.slicc_ast.specs.declared.tree.declaration.Pair.{Pair}
 use Rattle.slicc_ast.specs.declared.tree.name.Name.{Name}
 use Rattle.slicc_ast.specs.declared.tree.declaration.Enumeration.{Enumeration}
@@ -25,7 +25,7 @@ use Rattle.slicc_ast.specs.declared.tree.machine.Decl.{Decl}
 use Rattle.slicc_ast.specs.declared.tree.machine.Decl.TheVariants.{States as StatesDecl, Enumeration as EnumerationDecl, Structure as StructureDecl, OutPort as OutPortDecl, InPort as InPortDecl, Action as ActionDecl, Transition as TransitionDecl, Function as FunctionDecl, Object as ObjectDecl}
 use Rattle.slicc_ast.specs.declared.tree.machine.InPort.{InPort}
 use Rattle.slicc_ast.specs.declared.tree.machine.Literal.{Literal}
-use Rattle.slicc_ast.specs.declared.tree.machine.Literal.TheVariants.{Number as NumberLiteral, Minus as MinusLiteral, Quoted as QuotedLiteral, True as TrueLiteral, False as FalseLiteral}
+use Rattle.slicc_ast.specs.declared.tree.machine.Literal.TheVariants.{Number, Minus, Quoted, True, False}
 use Rattle.slicc_ast.specs.declared.tree.machine.Machine.{Machine}
 use Rattle.slicc_ast.specs.declared.tree.machine.Names.{Names}
 use Rattle.slicc_ast.specs.declared.tree.machine.Names.TheVariants.{One, Several}
@@ -34,26 +34,15 @@ use Rattle.slicc_ast.specs.declared.tree.machine.OutPort.{OutPort}
 use Rattle.slicc_ast.specs.declared.tree.machine.Parameter.{Parameter}
 use Rattle.slicc_ast.specs.declared.tree.machine.Transition.{Transition}
 use Rattle.slicc_ast.specs.declared.tree.statement.Block.{Block}
-use Rattle.slicc_ast.specs.Outline.{Parts, none, provided, is_allowed, are_allowed}
-use Rattle.slicc_ast.specs.Names.{sign, balanced_list}
-use Rattle.slicc_ast.specs.Declarations.{pair_list, formal_list, is_skipped, skipped, symbol_list, enumeration, state_list, states, member, member_list, structure}
-use Rattle.slicc_ast.specs.Statements.{stmt_list, block_end}
-use Rattle.slicc_ast.specs.Machines.{out_port, in_port, action, more_names, name_list, names, next_parts, action_list, transition, function_body, function, object, decl, literal, literal_parts, parameter, parameter_list, decl_list, type_parts, machine}
-use Rattle.slicc_ast.specs.Trees.{item, item_list, protocol_parts, tree}
+use Rattle.slicc_ast.specs.Prelude.{Parts, none, provided, is_allowed, are_allowed, balanced_list, pair_list, formal_list, is_skipped, skipped, symbol_list, state_list, member_list, stmt_list, block_end, more_names, name_list, next_parts, action_list, function_body, function, object, decl, literal_parts, parameter_list, decl_list, type_parts, item_list, protocol_parts, tree, has, Row, Rows, done, form, maybe, many, nested, end, up, Derives, Whole, ended, one, Form, name_kind, functional_name, end_of_text, sign_kind, spelling, of, ◌▸◌, comma, colon, semicolon, assign, string, machine_type_name, end_token, written}
+use Rattle.slicc_ast.specs.Names.{sign}
+use Rattle.slicc_ast.specs.Declarations.{enumeration, states, member, structure}
+use Rattle.slicc_ast.specs.Machines.{out_port, in_port, action, names, transition, literal, parameter, machine}
+use Rattle.slicc_ast.specs.Trees.{item}
 use Rattle.slicc_ast.specs.declared.tree.token.Sign.TheVariants.{CloseBrace}
-use Rattle.slicc_ast.specs.Kinds.{has}
-use Rattle.slicc_ast.specs.Grammar.{Row, Rows}
-use Rattle.slicc_ast.specs.Grammar.Row.{done, form, maybe, many, nested}
-use Rattle.slicc_ast.specs.Grammar.Rows.{end, up}
-use Rattle.slicc_ast.specs.Matches.{Derives}
-use Rattle.slicc_ast.specs.Matches.Extent.{Whole}
-use Rattle.slicc_ast.specs.Matches.Matches.{ended, one, absent, enough, inside, outside}
+use Rattle.slicc_ast.specs.Matches.Matches.{absent, enough, inside, outside}
 use Rattle.slicc_ast.proofs.Translating.{fold_to, to_present, to_again}
-use Rattle.slicc_ast.specs.Form.{Form}
-use Rattle.slicc_ast.specs.TokenKinds.{name_kind, functional_name, end_of_text, sign_kind}
-use Rattle.slicc_ast.specs.Spelled.{spelling}
-use Rattle.slicc_ast.specs.Parts.{of, ◌▸◌, comma, colon, semicolon, assign, string, machine_type_name, end_token, word as word_part, name as name_part, pairs as pairs_part, balanced as balanced_parts}
-use Rattle.slicc_ast.specs.Written.{written}
+use Rattle.slicc_ast.specs.Parts.{word, name, pairs, balanced}
 use Rattle.slicc_ast.proofs.Followed.{follow, follow_parts, follow-spelling}
 use Rattle.slicc_ast.proofs.Leading.{name_is_one, close}
 use Rattle.slicc_ast.proofs.LeadingParts.{Fits, close_brace, balanced_leads, pairs_lead, star_leads, formals_lead, plain_name_is_one}
@@ -70,7 +59,7 @@ skipped_is_one text is =
     ]
 
 abbrev one_symbol : Row Form
-one_symbol = (name_part ▸ pairs_part ▸ semicolon) done
+one_symbol = (name ▸ pairs ▸ semicolon) done
 
 symbols_lead : (ss : List Symbol) (parts : Parts) (r : Row Form) (S : Rows Form) (rest : List ℕ) (o : ℕ) → Fits r S (follow_parts parts rest) o → Fits (many one_symbol r) S (follow_parts (symbol_list ss parts) rest) o
 symbols_lead [] parts r S rest o m = enough m
@@ -85,7 +74,7 @@ enumeration_leads e r S rest o m =
     (inside refl (symbols_lead e.members (sign CloseBrace none) close_brace (up r S) rest o (one refl (outside m))))))))))
 
 abbrev one_state : Row Form
-one_state = (name_part ▸ comma ▸ name_part ▸ colon ▸ name_part ▸ pairs_part ▸ semicolon) done
+one_state = (name ▸ comma ▸ name ▸ colon ▸ name ▸ pairs ▸ semicolon) done
 
 state_list_leads : (ss : List State) (parts : Parts) (r : Row Form) (S : Rows Form) (rest : List ℕ) (o : ℕ) → Fits r S (follow_parts parts rest) o → Fits (many one_state r) S (follow_parts (state_list ss parts) rest) o
 state_list_leads [] parts r S rest o m = enough m
@@ -100,15 +89,15 @@ states_lead s r S rest o m =
     (inside refl (state_list_leads s.members (sign CloseBrace none) close_brace (up r S) rest o (one refl (outside m))))))))))
 
 -- the parts of a skipped function behind its name
-skipped_end : (s : Skipped) → is_allowed (skipped s) ≡ true → (r : Row Form) (S : Rows Form) (rest : List ℕ) (o : ℕ) → Fits r S rest o → Fits ((name_part ▸ Row.token (functional_name ∷ []) ▸ nested (sign_kind OpenParenthesis ∷ []) (balanced_parts close) ▸ pairs_part ▸ nested (sign_kind OpenBrace ∷ []) (balanced_parts close_brace)) r) S (follow (skipped s) rest) o
+skipped_end : (s : Skipped) → is_allowed (skipped s) ≡ true → (r : Row Form) (S : Rows Form) (rest : List ℕ) (o : ℕ) → Fits r S rest o → Fits ((name ▸ Row.token (functional_name ∷ []) ▸ nested (sign_kind OpenParenthesis ∷ []) (balanced close) ▸ pairs ▸ nested (sign_kind OpenBrace ∷ []) (balanced close_brace)) r) S (follow (skipped s) rest) o
 skipped_end s allowed r S rest o m =
     let is = and_parts (is_skipped s.name) _ allowed in
     let first = and_parts (are_allowed (balanced_list s.arguments.parts)) _ is.1 in
     let second = and_parts (are_allowed (pair_list s.pairs.items)) _ first.1 in
     let last = and_parts (are_allowed (balanced_list s.body.parts)) true second.1 in
     one (name_is_one s.kind.text) (one (skipped_is_one s.name.text is.0) (inside refl
-    (balanced_leads s.arguments.parts first.0 close (up ((pairs_part ▸ nested (sign_kind OpenBrace ∷ []) (balanced_parts close_brace)) r) S) _ o (one refl (outside
-    (pairs_lead s.pairs.items (nested (sign_kind OpenBrace ∷ []) (balanced_parts close_brace) r) S _ o
+    (balanced_leads s.arguments.parts first.0 close (up ((pairs ▸ nested (sign_kind OpenBrace ∷ []) (balanced close_brace)) r) S) _ o (one refl (outside
+    (pairs_lead s.pairs.items (nested (sign_kind OpenBrace ∷ []) (balanced close_brace) r) S _ o
     (inside refl (balanced_leads s.body.parts last.0 close_brace (up r S) _ o (one refl (outside m))))))))))
 
 member_leads : (e : Member) → is_allowed (member e) ≡ true → (r : Row Form) (S : Rows Form) (rest : List ℕ) (o : ℕ) → Fits r S rest o → Fits (form Form.member r) S (follow (member e) rest) o
@@ -118,7 +107,7 @@ member_leads (Field kind field attributes span) allowed r S rest o m =
 member_leads (Method kind method parameters attributes span) allowed r S rest o m =
     let is = and_parts (not (is_skipped method)) _ allowed in
     fold_to written Form.member 1 refl Whole _ o (one (name_is_one kind.text) (one (plain_name_is_one method (not-true (is_skipped method) is.0)) (inside refl
-    (formals_lead parameters.items close (up ((pairs_part ▸ semicolon) r) S) _ o (one refl (outside
+    (formals_lead parameters.items close (up ((pairs ▸ semicolon) r) S) _ o (one refl (outside
     (pairs_lead attributes.items (semicolon r) S _ o (one refl m))))))))
 member_leads (SkippedMember s) allowed r S rest o m = fold_to written Form.member 2 refl Whole _ o (skipped_end s allowed r S rest o m)
 
@@ -138,7 +127,7 @@ structure_leads s allowed r S rest o m =
     (pairs_lead s.pairs.items close (up (nested (sign_kind OpenBrace ∷ []) (many one_member close_brace) r) S) _ o (one refl (outside
     (inside refl (members_lead s.members (sign CloseBrace none) both.1 close_brace (up r S) rest o (one refl (outside m))))))))))
 
-port_head : (first type buffer : List ℕ) (items : List Pair) (behind : Row Form) (S : Rows Form) (rest : List ℕ) (o : ℕ) → Fits behind S rest o → Fits (nested (sign_kind OpenParenthesis ∷ []) ((name_part ▸ comma ▸ name_part ▸ comma ▸ name_part ▸ pairs_part) close) behind) S (sign_kind OpenParenthesis ∷ name_kind first ∷ sign_kind Comma ∷ name_kind type ∷ sign_kind Comma ∷ name_kind buffer ∷ follow_parts (pair_list items) (sign_kind CloseParenthesis ∷ rest)) o
+port_head : (first type buffer : List ℕ) (items : List Pair) (behind : Row Form) (S : Rows Form) (rest : List ℕ) (o : ℕ) → Fits behind S rest o → Fits (nested (sign_kind OpenParenthesis ∷ []) ((name ▸ comma ▸ name ▸ comma ▸ name ▸ pairs) close) behind) S (sign_kind OpenParenthesis ∷ name_kind first ∷ sign_kind Comma ∷ name_kind type ∷ sign_kind Comma ∷ name_kind buffer ∷ follow_parts (pair_list items) (sign_kind CloseParenthesis ∷ rest)) o
 port_head first type buffer items behind S rest o m =
     inside refl (one (name_is_one first) (one refl (one (name_is_one type) (one refl (one (name_is_one buffer)
     (pairs_lead items close (up behind S) _ o (one refl (outside m))))))))
@@ -162,7 +151,7 @@ action_leads a allowed r S rest o m =
     (pairs_lead a.pairs.items close (up (form Form.block r) S) _ o (one refl (outside (whole_block_leads a.body fine.0 r S rest o m)))))))
 
 abbrev one_name : Row Form
-one_name = (comma ▸ name_part) done
+one_name = (comma ▸ name) done
 
 more_names_lead : (ns : List Name) (parts : Parts) (r : Row Form) (S : Rows Form) (rest : List ℕ) (o : ℕ) → Fits r S (follow_parts parts rest) o → Fits (many one_name r) S (follow_parts (more_names ns parts) rest) o
 more_names_lead [] parts r S rest o m = enough m
@@ -187,7 +176,7 @@ next_leads None parts r S rest o m = absent m
 next_leads (Some n) parts r S rest o m = to_present written one_name r Whole _ o (one refl (one (name_is_one n.text) m))
 
 abbrev one_action : Row Form
-one_action = (name_part ▸ semicolon) done
+one_action = (name ▸ semicolon) done
 
 actions_lead : (ns : List Name) (parts : Parts) (r : Row Form) (S : Rows Form) (rest : List ℕ) (o : ℕ) → Fits r S (follow_parts parts rest) o → Fits (many one_action r) S (follow_parts (action_list ns parts) rest) o
 actions_lead [] parts r S rest o m = enough m
@@ -202,7 +191,7 @@ transition_leads t allowed r S rest o m =
     fold_to written Form.transition 0 refl Whole _ o (one refl (inside refl
     (names_lead t.states _ allowed _ (up braced S) rest o (λ later. one refl
     (names_lead t.events _ later _ (up braced S) rest o (λ last.
-    next_leads t.next _ (pairs_part close) (up braced S) rest o
+    next_leads t.next _ (pairs close) (up braced S) rest o
     (pairs_lead t.pairs.items close (up braced S) _ o closing)))))))
 
 body_leads : (b : Option Block) → are_allowed (function_body b) ≡ true → (r : Row Form) (S : Rows Form) (rest : List ℕ) (o : ℕ) → Fits r S rest o → Fits (form Form.body r) S (follow_parts (function_body b) rest) o
@@ -217,14 +206,14 @@ function_leads (Plain kind called parameters attributes b span) allowed r S rest
     let first = and_parts (are_allowed (formal_list parameters.items)) _ is.1 in
     let second = and_parts (are_allowed (pair_list attributes.items)) _ first.1 in
     fold_to written Form.declaration 7 refl Whole _ o (one (name_is_one kind.text) (one (plain_name_is_one called (not-true (is_skipped called) is.0)) (inside refl
-    (formals_lead parameters.items close (up (pairs_part (form Form.body r)) S) _ o (one refl (outside
+    (formals_lead parameters.items close (up (pairs (form Form.body r)) S) _ o (one refl (outside
     (pairs_lead attributes.items (form Form.body r) S _ o (body_leads b second.1 r S rest o m))))))))
 function_leads (SkippedFunction s) allowed r S rest o m = fold_to written Form.declaration 8 refl Whole _ o (skipped_end s allowed r S rest o m)
 
 object_leads : (b : Object) (r : Row Form) (S : Rows Form) (rest : List ℕ) (o : ℕ) → Fits r S rest o → Fits (form Form.declaration r) S (follow (object b) rest) o
 object_leads b r S rest o m =
     fold_to written Form.declaration 9 refl Whole _ o (one (name_is_one b.kind.text)
-    (star_leads b.has_star _ ((name_part ▸ pairs_part ▸ semicolon) r) S rest o (one (name_is_one b.name.text)
+    (star_leads b.has_star _ ((name ▸ pairs ▸ semicolon) r) S rest o (one (name_is_one b.name.text)
     (pairs_lead b.pairs.items (semicolon r) S _ o (one refl m)))))
 
 decl_leads : (d : Decl) → is_allowed (decl d) ≡ true → (r : Row Form) (S : Rows Form) (rest : List ℕ) (o : ℕ) → Fits r S rest o → Fits (form Form.declaration r) S (follow (decl d) rest) o
@@ -248,11 +237,11 @@ decls_lead (first ∷ others) parts allowed r S rest o m =
     to_again written one_decl r Whole _ o (decl_leads first both.0 (many one_decl r) S _ o (decls_lead others parts both.1 r S rest o m))
 
 literal_leads : (l : Literal) (r : Row Form) (S : Rows Form) (rest : List ℕ) (o : ℕ) → Fits r S rest o → Fits (form Form.literal r) S (follow (literal l) rest) o
-literal_leads (NumberLiteral n span) r S rest o m = fold_to written Form.literal 0 refl Whole _ o (one refl m)
-literal_leads (MinusLiteral n span) r S rest o m = fold_to written Form.literal 1 refl Whole _ o (one refl (one refl m))
-literal_leads (QuotedLiteral text span) r S rest o m = fold_to written Form.literal 2 refl Whole _ o (one refl m)
-literal_leads (TrueLiteral span) r S rest o m = fold_to written Form.literal 3 refl Whole _ o (one refl m)
-literal_leads (FalseLiteral span) r S rest o m = fold_to written Form.literal 4 refl Whole _ o (one refl m)
+literal_leads (Number n span) r S rest o m = fold_to written Form.literal 0 refl Whole _ o (one refl m)
+literal_leads (Minus n span) r S rest o m = fold_to written Form.literal 1 refl Whole _ o (one refl (one refl m))
+literal_leads (Quoted text span) r S rest o m = fold_to written Form.literal 2 refl Whole _ o (one refl m)
+literal_leads (True span) r S rest o m = fold_to written Form.literal 3 refl Whole _ o (one refl m)
+literal_leads (False span) r S rest o m = fold_to written Form.literal 4 refl Whole _ o (one refl m)
 
 abbrev given : Row Form
 given = (assign ▸ of Form.literal) done
@@ -264,8 +253,8 @@ given_leads (Some l) parts r S rest o m = to_present written given r Whole _ o (
 parameter_leads : (p : Parameter) (r : Row Form) (S : Rows Form) (rest : List ℕ) (o : ℕ) → Fits r S rest o → Fits (form Form.parameter r) S (follow (parameter p) rest) o
 parameter_leads p r S rest o m =
     fold_to written Form.parameter 0 refl Whole _ o (one (name_is_one p.kind.text)
-    (star_leads p.has_star _ ((name_part ▸ maybe given ▸ pairs_part ▸ semicolon) r) S rest o (one (name_is_one p.name.text)
-    (given_leads p.literal _ ((pairs_part ▸ semicolon) r) S rest o (pairs_lead p.pairs.items (semicolon r) S _ o (one refl m))))))
+    (star_leads p.has_star _ ((name ▸ maybe given ▸ pairs ▸ semicolon) r) S rest o (one (name_is_one p.name.text)
+    (given_leads p.literal _ ((pairs ▸ semicolon) r) S rest o (pairs_lead p.pairs.items (semicolon r) S _ o (one refl m))))))
 
 abbrev one_parameter : Row Form
 one_parameter = form Form.parameter done
@@ -299,7 +288,7 @@ machine_leads a allowed r S rest o m =
     let braced : Row Form = nested (sign_kind OpenBrace ∷ []) (many one_decl close_brace) r in
     let behind : Row Form = Row.token (sign_kind Colon ∷ []) (many one_parameter braced) in
     fold_to written Form.machine 0 refl Whole _ o (one refl (inside refl
-    (type_leads a.has_type _ ((name_part ▸ comma ▸ string ▸ pairs_part) close) (up behind S) rest o (one (name_is_one a.name.text) (one refl (one refl
+    (type_leads a.has_type _ ((name ▸ comma ▸ string ▸ pairs) close) (up behind S) rest o (one (name_is_one a.name.text) (one refl (one refl
     (pairs_lead a.pairs.items close (up behind S) _ o (one refl (outside (one refl
     (parameters_lead a.parameters _ braced S rest o
     (inside refl (decls_lead a.declarations (sign CloseBrace none) declared close_brace (up r S) rest o (one refl (outside m)))))))))))))))
@@ -326,7 +315,7 @@ some_items_lead (first ∷ others) some allowed r S rest o m =
     item_leads first both.0 (many one_item r) S _ o (items_lead others both.1 r S rest o m)
 
 abbrev protocol_part : Row Form
-protocol_part = (word_part ProtocolWord ▸ string ▸ semicolon) done
+protocol_part = (word Protocol ▸ string ▸ semicolon) done
 
 protocol_leads : (p : Option (List ℕ)) (parts : Parts) → are_allowed (protocol_parts p parts) ≡ true → (r : Row Form) (S : Rows Form) (rest : List ℕ) (o : ℕ) → (are_allowed parts ≡ true → Fits r S (follow_parts parts rest) o) → Fits (maybe protocol_part r) S (follow_parts (protocol_parts p parts) rest) o
 protocol_leads None parts allowed r S rest o m = absent (m allowed)

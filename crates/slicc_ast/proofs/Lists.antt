@@ -2,13 +2,9 @@
 -- the front of a list of it.
 use Rattle.std.proofs.Common.{◌≡◌, ◌↔◌, ℕ, true, List, ◌++◌, refl}
 use Rattle.std.specs.List.{list_all}
-use Rattle.slicc_ast.specs.Grammar.Row.{done, form}
-use Rattle.slicc_ast.specs.Grammar.Rows.{end}
-use Rattle.slicc_ast.specs.Matches.{Derives, IsViable}
+use Rattle.slicc_ast.specs.Prelude.{done, form, end, Derives, IsViable, Form, file, member_end, functional_end, machine_name, declaration, declaration_end, named_end, body, transition_end, statement, statement_end, conditional, otherwise, expression, conjunction, equality, order, sum, product, unary, postfix, primary, constant, opening, name_end, arguments, written, written_rows}
 use Rattle.slicc_ast.proofs.Completing.{HasList, by_alternative, derived_list, are_some, viable_is_front}
-use Rattle.slicc_ast.specs.Form.{Form}
-use Rattle.slicc_ast.specs.Form.Form.{file, item, enumeration, states, structure, member, member_end, functional_end, pair, machine, machine_name, parameter, literal, declaration, declaration_end, named_end, body, out_port, in_port, action, transition, transition_end, names, formals, formal, block, statement, statement_end, conditional, otherwise, expression, conjunction, equality, order, sum, product, unary, postfix, primary, constant, opening, name_end, suffix, arguments, balanced_part}
-use Rattle.slicc_ast.specs.Written.{written, written_rows}
+use Rattle.slicc_ast.specs.Form.Form.{item, enumeration, states, structure, member, pair, machine, parameter, literal, out_port, in_port, action, transition, names, formals, formal, block, suffix, balanced_part}
 
 constant_list : HasList written constant
 constant_list = by_alternative written constant 0 _ refl tt

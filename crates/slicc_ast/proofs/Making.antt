@@ -7,15 +7,10 @@ use Rattle.slicc_ast.specs.declared.tree.token.TokenKind.TheVariants.{Name as Na
 use Rattle.slicc_ast.specs.declared.tree.span.Span.{Span}
 use Rattle.slicc_ast.specs.declared.tree.name.Name.{Name}
 use Rattle.slicc_ast.specs.declared.tree.name.TypeName.{TypeName}
-use Rattle.slicc_ast.specs.Outline.{Outline, node, Parts, none, token, part, provided, kinds_of, kinds_in, is_allowed, are_allowed, no_span, shape_of, shape_in}
-use Rattle.slicc_ast.specs.Names.{name as name_parts, type_name as type_parts}
-use Rattle.slicc_ast.specs.Kinds.{has}
-use Rattle.slicc_ast.specs.Grammar.{Row, Rows}
-use Rattle.slicc_ast.specs.Grammar.Row.{done, form, maybe, many}
-use Rattle.slicc_ast.specs.Grammar.Rows.{next}
+use Rattle.slicc_ast.specs.Outline.{token}
+use Rattle.slicc_ast.specs.Prelude.{Outline, node, Parts, none, part, provided, kinds_of, kinds_in, is_allowed, are_allowed, no_span, shape_of, shape_in, type_name, has, Row, Rows, done, form, maybe, many, next, Form, name_kind, kind_of}
+use Rattle.slicc_ast.specs.Names.{name as name_parts}
 use Rattle.slicc_ast.proofs.Building.Builds.{one, alternative, present, absent, again, enough, on}
-use Rattle.slicc_ast.specs.Form.{Form}
-use Rattle.slicc_ast.specs.TokenKinds.{name_kind, kind_of}
 use Rattle.slicc_ast.proofs.Leading.{name_is_one}
 use Rattle.slicc_ast.proofs.Shapes.{Made, opened, with_token, with_part, ended_node, Mark, begin, close, marked_by, Step, plain, mark, Makes, name_of, name, of, at, shape_rows}
 
@@ -85,7 +80,7 @@ then_name_of {n = n} is c = record { makes = λ allowed R S rest s to m. a_name 
 pub then_name : {row : Place} {rows : Behind} {n : Name} {parts : Parts} → Closes row rows parts → Closes (λ R S. name (row R S)) rows (name_parts n parts)
 then_name {n = n} c = then_name_of {n = n} (name_is_one n.text) c
 
-pub then_type : {row : Place} {rows : Behind} {n : TypeName} {parts : Parts} → Closes row rows parts → Closes (λ R S. name (row R S)) rows (type_parts n parts)
+pub then_type : {row : Place} {rows : Behind} {n : TypeName} {parts : Parts} → Closes row rows parts → Closes (λ R S. name (row R S)) rows (type_name n parts)
 then_type {n = n} c = record { makes = λ allowed R S rest s to m. any_name n.text (c.makes allowed R S rest (with_part (name_node n.text) s) to m) }
 
 pub then_form : {n : Form} {row : Place} {rows : Behind} {o : Outline} {parts : Parts} → Forms n o → Closes row rows parts → Closes (λ R S. of n (row R S)) rows (part o parts)

@@ -3,22 +3,14 @@
 use Rattle.std.proofs.Common.{◌≡◌, ℕ, zero, suc, ◌+◌, ◌-◌, ◌≤◌, ◌<◌, nat_le, nat_lt, ◌==◌, Bool, true, false, List, Some, None, refl, subst, arith}
 use Rattle.std.proofs.lemmas.Bool.{and_parts, eqb-true, leb-true, ltb-true, false≢true}
 use Rattle.slicc_ast.specs.declared.tree.token.TokenKind.{TokenKind}
-use Rattle.slicc_ast.specs.declared.tree.token.TokenKind.TheVariants.{Sign as SignToken}
+use Rattle.slicc_ast.specs.declared.tree.token.TokenKind.TheVariants.{Sign}
 use Rattle.slicc_ast.specs.declared.tree.expression.Operator.{Operator}
 use Rattle.slicc_ast.specs.declared.tree.expression.Operator.TheVariants.{Or, And, Equal, Unequal, Less, Greater, LessOrEqual, GreaterOrEqual, Plus, Minus, Times}
 use Rattle.slicc_ast.specs.declared.tree.expression.Expr.{Expr, Number, True, False, Nothing, Variable, Member, Call', New, Row_of-Expr, end_of-Expr, more_of-Expr, Row_of-Operand, end_of-Operand, more_of-Operand, Row_of-Suffix, end_of-Suffix, more_of-Suffix}
-use Rattle.slicc_ast.specs.Boxes.{Operation', Not', Negate', Postfix', IsValid', IsInvalid', Cast', Group'}
+use Rattle.slicc_ast.specs.Prelude.{Operation', Not', Negate', Postfix', IsValid', IsInvalid', Cast', Group', Outline, node, part, no_span, is_allowed, are_allowed, shape_of, shape_in, expr, level_of, row_level, has_suffix, operator_sign, operator_level, operand_row, suffix_row, args_row, more_args_row, has, Row, Rows, done, many, maybe, next, Form, expression, constant, name_end, arguments, kind_of}
 use Rattle.slicc_ast.specs.declared.tree.expression.Suffix.{Suffix, Field, Method', Index}
-use Rattle.slicc_ast.specs.Outline.{Outline, node, part, no_span, is_allowed, are_allowed, shape_of, shape_in}
-use Rattle.slicc_ast.specs.Expressions.{expr, suffix, level_of, row_level, has_suffix, operator_sign, operator_level, operand_row, suffix_row, args_row, more_args_row}
-use Rattle.slicc_ast.specs.Kinds.{has}
-use Rattle.slicc_ast.specs.Grammar.{Row, Rows}
-use Rattle.slicc_ast.specs.Grammar.Row.{done, many, maybe}
-use Rattle.slicc_ast.specs.Grammar.Rows.{next}
+use Rattle.slicc_ast.specs.Expressions.{suffix}
 use Rattle.slicc_ast.proofs.Building.Builds.{one, alternative, present, absent, again, enough, on}
-use Rattle.slicc_ast.specs.Form.{Form}
-use Rattle.slicc_ast.specs.Form.Form.{expression, constant, name_end, arguments}
-use Rattle.slicc_ast.specs.TokenKinds.{kind_of}
 use Rattle.slicc_ast.proofs.Leading.{depth_of, depth_level, most_level}
 use Rattle.slicc_ast.proofs.Shapes.{◌▸◌, Made, with_part, ended_node, close, wrap, Step, Makes, of, at, optional, name, comma, front, form_at, kinds_at, operand_at, operation_at, operators_to, suffixes}
 use Rattle.slicc_ast.proofs.Making.{spelled, spelled_in, marked, any_name, Forms}
@@ -92,7 +84,7 @@ of_primary : (named : Bool) (o : Outline) → Leads (start_of named) o → Readi
 of_primary named o leads =
     of_unary 9 named o (omega arith) (from_start named o (λ R S rest s to m. leads (suffixes R) S rest s to (absent m))) (λ tight. leads)
 
-sign_at : (op : Operator) → has (kinds_at (depth_of op)) (kind_of (SignToken (operator_sign op))) ≡ true
+sign_at : (op : Operator) → has (kinds_at (depth_of op)) (kind_of (Sign (operator_sign op))) ≡ true
 sign_at Times = refl
 sign_at Plus = refl
 sign_at Minus = refl
@@ -105,11 +97,11 @@ sign_at Unequal = refl
 sign_at And = refl
 sign_at Or = refl
 
-operator_at : (op : Operator) (d level : ℕ) → d + level ≡ 6 → operator_level op ≡ level → has (kinds_at d) (kind_of (SignToken (operator_sign op))) ≡ true
+operator_at : (op : Operator) (d level : ℕ) → d + level ≡ 6 → operator_level op ≡ level → has (kinds_at d) (kind_of (Sign (operator_sign op))) ≡ true
 operator_at op d level sums is =
     let own : depth_of op + operator_level op ≡ 6 = depth_level op in
     let same : depth_of op ≡ d = omega arith in
-    subst (λ n. has (kinds_at n) (kind_of (SignToken (operator_sign op))) ≡ true) same (sign_at op)
+    subst (λ n. has (kinds_at n) (kind_of (Sign (operator_sign op))) ≡ true) same (sign_at op)
 
 -- operands of a level, from the first one on
 of_operation : (level : ℕ) (named : Bool) (o : Outline) → 0 < level → level ≤ 6 → ((d : ℕ) → d + level ≡ 6 → Leads (λ R. front named (operators_to d (maybe (operation_at d) R))) o) → Reading level named o

@@ -6,22 +6,18 @@ use Rattle.slicc_ast.specs.declared.tree.balanced.Part.{Part, Token, Parentheses
 use Rattle.slicc_ast.specs.declared.tree.declaration.Formal.{Formal}
 use Rattle.slicc_ast.specs.declared.tree.declaration.Formals.{Formals}
 use Rattle.slicc_ast.specs.declared.tree.declaration.Pair.{Pair}
-use Rattle.slicc_ast.specs.declared.tree.declaration.Pair.TheVariants.{Named as NamedPair, Bare}
+use Rattle.slicc_ast.specs.declared.tree.declaration.Pair.TheVariants.{Named, Bare}
 use Rattle.slicc_ast.specs.declared.tree.declaration.Pairs.{Pairs}
 use Rattle.slicc_ast.specs.declared.tree.declaration.PairValue.{PairValue}
 use Rattle.slicc_ast.specs.declared.tree.declaration.PairValue.TheVariants.{Quoted as QuotedValue, Number as NumberValue, Name as NameValue}
 use Rattle.slicc_ast.specs.declared.tree.machine.Literal.{Literal}
-use Rattle.slicc_ast.specs.declared.tree.machine.Literal.TheVariants.{Number as NumberLiteral, Minus as MinusLiteral, Quoted as QuotedLiteral, True as TrueLiteral, False as FalseLiteral}
+use Rattle.slicc_ast.specs.declared.tree.machine.Literal.TheVariants.{Number as NumberLiteral, Minus, Quoted as QuotedLiteral, True, False}
 use Rattle.slicc_ast.specs.declared.tree.name.Name.{Name}
-use Rattle.slicc_ast.specs.Outline.{Parts, none}
-use Rattle.slicc_ast.specs.Names.{star, is_loose, balanced as balanced_parts, balanced_part, balanced_row, balanced_list}
-use Rattle.slicc_ast.specs.Declarations.{pair, pair_value, pair_list, pairs as pairs_parts, formal, more_formals, formal_list, formals as formals_parts, optional_name}
+use Rattle.slicc_ast.specs.Prelude.{Parts, none, is_loose, balanced_row, balanced_list, pair_value, pair_list, more_formals, formal_list, optional_name, Row, done, many, next, Form}
+use Rattle.slicc_ast.specs.Names.{star, balanced as balanced_parts, balanced_part}
+use Rattle.slicc_ast.specs.Declarations.{pair, pairs as pairs_parts, formal, formals}
 use Rattle.slicc_ast.specs.Machines.{literal}
-use Rattle.slicc_ast.specs.Grammar.{Row}
-use Rattle.slicc_ast.specs.Grammar.Row.{done, many}
-use Rattle.slicc_ast.specs.Grammar.Rows.{next}
 use Rattle.slicc_ast.proofs.Building.Builds.{one, alternative, on}
-use Rattle.slicc_ast.specs.Form.{Form}
 use Rattle.slicc_ast.proofs.LeadingParts.{loose}
 use Rattle.slicc_ast.proofs.Shapes.{◌▸◌, Step, value, close, of, at, name, sign, comma, optional, more_pairs, pairs, formals_part, balanced}
 use Rattle.slicc_ast.proofs.Making.{Forms, Closes, Place, Behind, marked, any_name, closed, closed_last, then_token, then_name, then_type, then_form, then_node, where_allowed, then_on, then_alternative, then_present, then_absent, then_again, then_enough, by_node}
@@ -58,7 +54,7 @@ value_closes (NumberValue n) = record { makes = λ allowed R S rest s to m. alte
 value_closes (NameValue n) = record { makes = λ allowed R S rest s to m. alternative 1 _ refl (any_name n.text (on (marked (on m)))) }
 
 pub pair_forms : (p : Pair) → Forms Form.pair (pair p)
-pair_forms (NamedPair key v span) = by_node 0 refl (then_name (then_token refl (value_closes v)))
+pair_forms (Named key v span) = by_node 0 refl (then_name (then_token refl (value_closes v)))
 pair_forms (Bare text span) = by_node 1 refl (then_token refl closed_last)
 
 pub then_pair_list : {row : Place} {rows : Behind} (ps : List Pair) → Closes row rows none → Closes (λ R S. more_pairs (row R S)) rows (pair_list ps)
@@ -92,13 +88,13 @@ formal_list_closes [] = then_absent closed
 formal_list_closes (first ∷ others) =
     then_present (then_alternative Form.formals 0 refl (then_form (formal_forms first) (more_formals_close others (then_on (then_on closed)))))
 
-pub then_formals : {row : Place} {rows : Behind} {parts : Parts} (f : Formals) → Closes row rows parts → Closes (λ R S. formals_part (row R S)) rows (formals_parts f parts)
+pub then_formals : {row : Place} {rows : Behind} {parts : Parts} (f : Formals) → Closes row rows parts → Closes (λ R S. formals_part (row R S)) rows (formals f parts)
 then_formals f c = then_token refl (then_node (formal_list_closes f.items) (then_token refl c))
 
 -- literals
 pub literal_forms : (l : Literal) → Forms Form.literal (literal l)
 literal_forms (NumberLiteral n span) = by_node 0 refl (then_token refl closed_last)
-literal_forms (MinusLiteral n span) = by_node 1 refl (then_token refl (then_token refl closed_last))
+literal_forms (Minus n span) = by_node 1 refl (then_token refl (then_token refl closed_last))
 literal_forms (QuotedLiteral text span) = by_node 2 refl (then_token refl closed_last)
-literal_forms (TrueLiteral span) = by_node 3 refl (then_token refl closed_last)
-literal_forms (FalseLiteral span) = by_node 4 refl (then_token refl closed_last)
+literal_forms (True span) = by_node 3 refl (then_token refl closed_last)
+literal_forms (False span) = by_node 4 refl (then_token refl closed_last)

@@ -12,15 +12,9 @@ use Rattle.slicc_ast.specs.declared.tree.statement.Block.{Block}
 use Rattle.slicc_ast.specs.declared.tree.statement.PrintWord.TheVariants.{Dprintf, AppendTransitionComment}
 use Rattle.slicc_ast.specs.declared.tree.statement.If.{If, If', Held-If-otherwise, None', Some', Row_of-ElseIf, end_of-ElseIf, more_of-ElseIf}
 use Rattle.slicc_ast.specs.declared.tree.statement.Stmt.{Stmt, Declare, Assign, Evaluate, Return, If as IfStmt, Peek', Enqueue', StallAndWait, CheckAllocate, Error, Assert, Print, Row_of-Stmt, end_of-Stmt, more_of-Stmt}
-use Rattle.slicc_ast.specs.Outline.{node, Parts, none, part, is_allowed, are_allowed}
+use Rattle.slicc_ast.specs.Prelude.{node, Parts, none, part, is_allowed, are_allowed, expr, stmt, if_outline, else_if_row, else_part, stmt_row, stmt_list, block_end, Row, Rows, done, form, maybe, many, next, Form}
 use Rattle.slicc_ast.specs.Names.{sign as sign_parts}
-use Rattle.slicc_ast.specs.Expressions.{expr}
-use Rattle.slicc_ast.specs.Statements.{stmt, if_outline, else_if_row, else_part, stmt_row, stmt_list, block_end}
-use Rattle.slicc_ast.specs.Grammar.{Row, Rows}
-use Rattle.slicc_ast.specs.Grammar.Row.{done, form, maybe, many}
-use Rattle.slicc_ast.specs.Grammar.Rows.{next}
 use Rattle.slicc_ast.proofs.Building.Builds.{one, alternative, on}
-use Rattle.slicc_ast.specs.Form.{Form}
 use Rattle.slicc_ast.proofs.Shapes.{◌▸◌, Made, Mark, Step, mark, marked_by, Makes, of, at, close, name, word, sign, front, operators_to, end_of_statement}
 use Rattle.slicc_ast.proofs.Making.{spelled_in, Forms, Closes, Place, Behind, closed_last, then_token, then_name, then_type, then_form, then_on, then_alternative, then_present, then_absent, then_again, then_enough, by_node}
 use Rattle.slicc_ast.proofs.MakingExpressions.{begins_with_name, expression_forms, from_its_start}

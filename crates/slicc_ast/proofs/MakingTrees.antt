@@ -11,7 +11,7 @@ use Rattle.slicc_ast.specs.declared.tree.declaration.Function.TheVariants.{Plain
 use Rattle.slicc_ast.specs.declared.tree.declaration.Member.{Member}
 use Rattle.slicc_ast.specs.declared.tree.declaration.Member.TheVariants.{Field, Method, Skipped as SkippedMember}
 use Rattle.slicc_ast.specs.declared.tree.declaration.Pair.{Pair}
-use Rattle.slicc_ast.specs.declared.tree.declaration.Pair.TheVariants.{Named as NamedPair, Bare}
+use Rattle.slicc_ast.specs.declared.tree.declaration.Pair.TheVariants.{Named, Bare}
 use Rattle.slicc_ast.specs.declared.tree.declaration.Pairs.{Pairs}
 use Rattle.slicc_ast.specs.declared.tree.declaration.Skipped.{Skipped}
 use Rattle.slicc_ast.specs.declared.tree.declaration.State.{State}
@@ -37,18 +37,12 @@ use Rattle.slicc_ast.specs.declared.tree.name.Name.{Name}
 use Rattle.slicc_ast.specs.declared.tree.name.TypeName.{TypeName}
 use Rattle.slicc_ast.specs.declared.tree.span.Span.{Span}
 use Rattle.slicc_ast.specs.declared.tree.statement.Block.{Block}
-use Rattle.slicc_ast.specs.Outline.{node, Parts, none, part, provided, is_allowed, are_allowed, shape_of}
-use Rattle.slicc_ast.specs.Names.{sign as sign_parts, star, name as name_parts, type_name, balanced as balanced_parts}
-use Rattle.slicc_ast.specs.Declarations.{pair, pair_list, pairs as pairs_parts, is_skipped, symbol_list, enumeration, state_list, states, member, member_list, structure}
-use Rattle.slicc_ast.specs.Machines.{out_port, in_port, action, more_names, name_list, names as names_parts, next_parts, action_list, transition, function_body, function, object, decl, literal_parts, parameter, parameter_list, decl_list, type_parts, machine}
-use Rattle.slicc_ast.specs.Trees.{item, item_list, protocol_parts, tree_parts, tree}
-use Rattle.slicc_ast.specs.Kinds.{has}
-use Rattle.slicc_ast.specs.Grammar.{Row}
-use Rattle.slicc_ast.specs.Grammar.Row.{done, many}
-use Rattle.slicc_ast.specs.Grammar.Rows.{end, next}
+use Rattle.slicc_ast.specs.Prelude.{node, Parts, none, part, provided, is_allowed, are_allowed, shape_of, type_name, pair_list, is_skipped, symbol_list, state_list, member_list, more_names, name_list, next_parts, action_list, function_body, function, object, decl, literal_parts, parameter_list, decl_list, type_parts, item_list, protocol_parts, tree_parts, tree, has, Row, done, many, end, next, Form, end_of_text, name_kind, machine_type, functional_name, other_name}
+use Rattle.slicc_ast.specs.Names.{sign as sign_parts, star, name as name_parts, balanced}
+use Rattle.slicc_ast.specs.Declarations.{pair, pairs as pairs_parts, enumeration, states, member, structure}
+use Rattle.slicc_ast.specs.Machines.{out_port, in_port, action, names, transition, parameter, machine}
+use Rattle.slicc_ast.specs.Trees.{item}
 use Rattle.slicc_ast.proofs.Building.Builds.{ended, one, alternative, present, absent, on}
-use Rattle.slicc_ast.specs.Form.{Form}
-use Rattle.slicc_ast.specs.TokenKinds.{end_of_text, name_kind, machine_type, functional_name, other_name}
 use Rattle.slicc_ast.proofs.LeadingParts.{plain_name_is_one}
 use Rattle.slicc_ast.proofs.LeadingTrees.{skipped_is_one}
 use Rattle.slicc_ast.proofs.Shapes.{◌▸◌, start, opened, with_token, with_part, Step, Makes, of, at, begin, close, name, sign, word, comma, colon, semicolon, assign, string, optional, repeated, more_pairs, pairs, port_head}
@@ -95,8 +89,8 @@ plain_or_skipped text =
 -- what stands behind the name of a skipped function
 abbrev skipped_parts : Skipped → Parts
 skipped_parts s =
-    sign_parts OpenParenthesis (balanced_parts s.arguments (sign_parts CloseParenthesis (pairs_parts s.pairs
-    (sign_parts OpenBrace (balanced_parts s.body (sign_parts CloseBrace none))))))
+    sign_parts OpenParenthesis (balanced s.arguments (sign_parts CloseParenthesis (pairs_parts s.pairs
+    (sign_parts OpenBrace (balanced s.body (sign_parts CloseBrace none))))))
 
 skipped_end : {row : Place} {rows : Behind} (s : Skipped) → Closes row rows none → Closes (λ R S. of Form.functional_end (row R S)) rows (skipped_parts s)
 skipped_end s c =
@@ -160,7 +154,7 @@ several_close : (ns : List Name) → Closes (λ R S. (sign OpenBrace ▸ name �
 several_close [] = where_allowed false (λ is. absurd (false≢true is))
 several_close (first ∷ others) = where_allowed (not (length (first ∷ others) == 0)) (λ is. then_token refl (then_name (more_names_close others (then_token refl closed_last))))
 
-then_names : {row : Place} {rows : Behind} {parts : Parts} (ns : Names) → Closes row rows parts → Closes (λ R S. of Form.names (row R S)) rows (names_parts ns parts)
+then_names : {row : Place} {rows : Behind} {parts : Parts} (ns : Names) → Closes row rows parts → Closes (λ R S. of Form.names (row R S)) rows (names ns parts)
 then_names (One n) c = then_alternative Form.names 0 refl (then_name (then_on c))
 then_names (Several ns span) c = then_form (by_node 1 refl (several_close ns)) c
 
@@ -172,11 +166,11 @@ then_no_next : {row : Place} {rows : Behind} {parts : Parts} (span : Span) (ps :
 then_no_next span [] c = then_node (then_absent closed) c
 then_no_next span (Bare text within ∷ others) c =
     then_node (then_present (then_token refl (then_alternative Form.transition_end 1 refl (then_node (then_token refl closed) (then_pair_list others (then_on (then_on closed))))))) c
-then_no_next {row = row} {rows = rows} {parts = parts} span (NamedPair key v within ∷ others) c =
+then_no_next {row = row} {rows = rows} {parts = parts} span (Named key v within ∷ others) c =
     record {
       makes = λ allowed R S rest s to m.
-          let both = and_parts (are_allowed (pair_list (NamedPair key v within ∷ others))) (are_allowed parts) allowed in
-          let inner = and_parts (is_allowed (pair (NamedPair key v within))) (are_allowed (pair_list others)) both.0 in
+          let both = and_parts (are_allowed (pair_list (Named key v within ∷ others))) (are_allowed parts) allowed in
+          let inner = and_parts (is_allowed (pair (Named key v within))) (are_allowed (pair_list others)) both.0 in
           marked (present (one refl (alternative 0 _ refl (any_name key.text (marked (present (marked (one refl
           ((value_closes v).makes inner.0 (more_pairs done) (next done (next (at close (row R S)) (rows R S))) (spelled_in (pair_list others) (spelled_in parts rest)) _ to
           ((end_of_list others).makes inner.1 (row R S) (rows R S) (spelled_in parts rest) _ to

@@ -2,14 +2,8 @@
 use Rattle.std.proofs.Common.{◌≡◌, ℕ, List, [], ◌∷◌, Some, refl, sym, subst, ap, ◌∙◌, inl, inr}
 use mathlib.Core.Path.{path_j, subst_refl}
 use Rattle.std.specs.List.{slice_get}
-use Rattle.slicc_ast.specs.Grammar.{Row, Rows, Grammar}
-use Rattle.slicc_ast.specs.Grammar.Row.{done, form}
-use Rattle.slicc_ast.specs.Grammar.Rows.{end, next}
-use Rattle.slicc_ast.specs.Matches.{Derives, Matches}
-use Rattle.slicc_ast.specs.Matches.Extent.{Whole}
-use Rattle.slicc_ast.specs.Matches.Matches.{ended, one, alternative, present, absent, again, enough, inside, on, outside}
-use Rattle.slicc_ast.specs.Choices.{choices_of}
-use Rattle.slicc_ast.specs.Predictive.{IsPredictive}
+use Rattle.slicc_ast.specs.Prelude.{Row, Rows, Grammar, done, form, end, next, Derives, Matches, Whole, ended, one, alternative, choices_of, IsPredictive}
+use Rattle.slicc_ast.specs.Matches.Matches.{present, absent, again, enough, inside, on, outside}
 use Rattle.slicc_ast.proofs.Tables.{one_empty, one_row}
 use Rattle.slicc_ast.proofs.Starts.{Starts, starts_of, nullable_of}
 use Rattle.slicc_ast.proofs.Forced.{IsSound, into_form, into_rest, into_part, into_end, into_again, into_nested, not_both, not_both_many, place_chosen}

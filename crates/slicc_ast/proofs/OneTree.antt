@@ -5,15 +5,9 @@ use Rattle.slicc_ast.specs.declared.tree.token.TokenKind.TheVariants.{End}
 use Rattle.slicc_ast.specs.declared.tree.expression.Expr.{Expr}
 use Rattle.slicc_ast.specs.declared.tree.item.Tree.{Tree}
 use Rattle.slicc_ast.specs.declared.tree.statement.Block.{Block}
-use Rattle.slicc_ast.specs.Outline.{Outline, node, none, no_span, kinds_of, is_allowed, shape_of}
-use Rattle.slicc_ast.specs.Expressions.{expr}
-use Rattle.slicc_ast.specs.Statements.{block_outline}
-use Rattle.slicc_ast.specs.Trees.{tree}
-use Rattle.slicc_ast.specs.Grammar.Row.{done}
-use Rattle.slicc_ast.specs.Grammar.Rows.{end}
+use Rattle.slicc_ast.specs.Prelude.{Outline, node, none, no_span, kinds_of, is_allowed, shape_of, expr, block_outline, tree, done, end, Form}
 use Rattle.slicc_ast.proofs.Building.{one_form_built}
 use Rattle.slicc_ast.proofs.Building.Builds.{ended}
-use Rattle.slicc_ast.specs.Form.{Form}
 use Rattle.slicc_ast.proofs.Shapes.{Made, start, opened, with_token, with_part, plain, Makes, of, shaper}
 use Rattle.slicc_ast.proofs.ShapesDecided.{shapes_decided}
 use Rattle.slicc_ast.proofs.Making.{spelled, spelled-kinds, Forms}

@@ -1,25 +1,12 @@
 -- A reader by the table, and the written grammar.
 use Rattle.std.proofs.Common.{◌≡◌, ℕ, true, List, [], ◌∷◌, ◌++◌, refl}
 use Rattle.slicc_ast.specs.declared.tree.item.Tree.{Tree}
-use Rattle.slicc_ast.specs.Outline.{is_allowed}
-use Rattle.slicc_ast.specs.Trees.{tree}
-use Rattle.slicc_ast.specs.Faults.{IsFirstFault, IsWithin, Stop}
-use Rattle.slicc_ast.specs.Faults.Stop.{Passed}
-use Rattle.slicc_ast.specs.Grammar.Row.{done, form}
-use Rattle.slicc_ast.specs.Grammar.Rows.{end}
-use Rattle.slicc_ast.specs.Reader.{Fails, Passes}
-use Rattle.slicc_ast.specs.Same.{HaveSameLists}
+use Rattle.slicc_ast.specs.Prelude.{is_allowed, tree, IsFirstFault, IsWithin, Stop, Passed, done, form, end, Fails, Passes, HaveSameLists, Form, file, spelling, end_of_text, table, written}
 use Rattle.slicc_ast.proofs.Joining.{same_lists}
 use Rattle.slicc_ast.proofs.SameStops.{same_stop}
 use Rattle.slicc_ast.proofs.Steps.{passed_is_front, failed_is_fault}
 use Rattle.slicc_ast.proofs.Fronts.{one_stop, whole_passes}
-use Rattle.slicc_ast.specs.Form.{Form}
-use Rattle.slicc_ast.specs.Form.Form.{file}
-use Rattle.slicc_ast.specs.Spelled.{spelling}
-use Rattle.slicc_ast.specs.TokenKinds.{end_of_text}
 use Rattle.slicc_ast.proofs.LeadingTrees.{tree_derives}
-use Rattle.slicc_ast.specs.Table.{table}
-use Rattle.slicc_ast.specs.Written.{written}
 use Rattle.slicc_ast.proofs.Decided.{one_token_decides}
 use Rattle.slicc_ast.proofs.IntoTable.{table_covers}
 use Rattle.slicc_ast.proofs.IntoWritten.{written_covers}

@@ -2,13 +2,8 @@
 -- and what stands at the end of a row may be exchanged for what matches the same lists up to a length.
 use Rattle.std.proofs.Common.{◌≡◌, ℕ, suc, ◌≤◌, List, [], length, Some, refl, sym, subst, ap, arith}
 use Rattle.std.specs.List.{slice_get}
-use Rattle.slicc_ast.specs.Grammar.{Row, Rows, Grammar, nestings_of}
-use Rattle.slicc_ast.specs.Grammar.Row.{form, many}
-use Rattle.slicc_ast.specs.Grammar.Rows.{next, up}
-use Rattle.slicc_ast.specs.Matches.{Extent, Matches}
-use Rattle.slicc_ast.specs.Matches.Extent.{Front}
-use Rattle.slicc_ast.specs.Matches.Matches.{stopped, ended, one, alternative, present, absent, again, enough, inside, on, outside}
-use Rattle.slicc_ast.specs.Same.{joined}
+use Rattle.slicc_ast.specs.Prelude.{Row, Rows, Grammar, nestings_of, form, many, next, up, Extent, Matches, Front, stopped, ended, one, alternative, joined}
+use Rattle.slicc_ast.specs.Matches.Matches.{present, absent, again, enough, inside, on, outside}
 use Rattle.slicc_ast.proofs.Joining.{merge, part}
 
 module _ {F : Type 0} (g : Grammar F) where

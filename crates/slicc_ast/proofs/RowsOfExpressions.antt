@@ -2,9 +2,9 @@
 use Rattle.std.proofs.Common.{◌≡◌, ◌==◌, ℕ, nat_lt, refl, ap}
 use Rattle.slicc_ast.specs.declared.tree.expression.Expr.{Row_of-Expr, end_of-Expr, more_of-Expr, items-the_row-Expr, Row_of-Operand, end_of-Operand, more_of-Operand, items-the_row-Operand, Row_of-Suffix, end_of-Suffix, more_of-Suffix, items-the_row-Suffix}
 use Rattle.slicc_ast.specs.declared.tree.token.Sign.TheVariants.{Comma}
-use Rattle.slicc_ast.specs.Outline.{part, provided}
+use Rattle.slicc_ast.specs.Prelude.{part, provided, expr, level_of, row_level, list_level, operator_level, operator_sign, operand_row, operand_list, suffix_row, suffix_list, args_row, more_args_row, args_list, more_args}
 use Rattle.slicc_ast.specs.Names.{sign}
-use Rattle.slicc_ast.specs.Expressions.{expr, level_of, row_level, list_level, operator_level, operator_sign, operand_row, operand_list, suffix, suffix_row, suffix_list, args_row, more_args_row, args_list, more_args}
+use Rattle.slicc_ast.specs.Expressions.{suffix}
 
 pub more_args_of_row : (n : _) (row : Row_of-Expr n) → more_args_row row ≡ more_args (items-the_row-Expr n row)
 more_args_of_row n end_of-Expr = refl

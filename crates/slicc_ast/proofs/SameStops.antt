@@ -1,11 +1,6 @@
 -- In two tables with the same lists, a list stops at the same place.
 use Rattle.std.proofs.Common.{◌≡◌, ℕ, true, List, [], ◌∷◌, ◌++◌, sym, subst}
-use Rattle.slicc_ast.specs.Kinds.{has}
-use Rattle.slicc_ast.specs.Grammar.{Row, Rows, Grammar}
-use Rattle.slicc_ast.specs.Matches.Extent.{Whole, Front}
-use Rattle.slicc_ast.specs.Faults.{Stop, IsWithin, IsLongest, IsOpenerTooDeep, IsStop}
-use Rattle.slicc_ast.specs.Faults.IsStop.{one_too_deep, whole, opener_too_deep, not_viable, too_short}
-use Rattle.slicc_ast.specs.Same.{HaveSameLists}
+use Rattle.slicc_ast.specs.Prelude.{has, Row, Rows, Grammar, Whole, Front, Stop, IsWithin, IsLongest, IsOpenerTooDeep, IsStop, one_too_deep, whole, opener_too_deep, not_viable, too_short, HaveSameLists}
 
 module _ {F : Type 0} (g other : Grammar F) (same : HaveSameLists g other) (openers : g.openers ≡ other.openers) (limit : ℕ) (row : Row F) (rows : Rows F) where
   within : (tokens : List ℕ) → IsWithin g limit row rows tokens → IsWithin other limit row rows tokens

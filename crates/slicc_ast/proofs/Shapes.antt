@@ -8,15 +8,10 @@ use Rattle.slicc_ast.specs.declared.tree.token.Word.{Word}
 use Rattle.slicc_ast.specs.declared.tree.token.Sign.{Sign}
 use Rattle.slicc_ast.specs.declared.tree.token.Word.TheVariants.{Protocol, Include, Machine, Enumeration, StateDeclaration, Structure, InPort, OutPort, Action, Transition, Peek, Enqueue, StallAndWait, CheckAllocate, If, Else, Return, True, False, Ood, New, IsValid, IsInvalid, StaticCast, Error, Assert, Dprintf, AppendTransitionComment}
 use Rattle.slicc_ast.specs.declared.tree.token.Sign.TheVariants.{OpenBrace, CloseBrace, OpenParenthesis, CloseParenthesis, OpenBracket, CloseBracket, Comma, Colon, Semicolon, Assign, Dot, Equals, Minus, Not, Star, Plus, Less, Greater, LessOrEqual, GreaterOrEqual, Equal, Unequal, And, Or}
-use Rattle.slicc_ast.specs.Outline.{Outline, node, Parts, none, token, part, no_span}
-use Rattle.slicc_ast.specs.Grammar.{Row, Rows, Grammar}
-use Rattle.slicc_ast.specs.Reader.{followed_by}
+use Rattle.slicc_ast.specs.Outline.{token}
+use Rattle.slicc_ast.specs.Prelude.{Outline, node, Parts, none, part, no_span, Row, Rows, Grammar, followed_by, Form, file, member_end, functional_end, machine_name, declaration, declaration_end, named_end, body, transition_end, statement, statement_end, conditional, otherwise, expression, conjunction, equality, order, sum, product, unary, postfix, primary, constant, opening, name_end, arguments, other_name, machine_type, functional_name, number, quoted, end_of_text, kind_of, sign_kind, word_kind, names_of, unbracketed, first_of_form, further_of_form}
 use Rattle.slicc_ast.proofs.Building.{Builder, Builds}
-use Rattle.slicc_ast.specs.Form.{Form}
-use Rattle.slicc_ast.specs.Form.Form.{file, item, enumeration, states, structure, member, member_end, functional_end, pair, machine, machine_name, parameter, literal, declaration, declaration_end, named_end, body, out_port, in_port, action, transition, transition_end, names, formals, formal, block, statement, statement_end, conditional, otherwise, expression, conjunction, equality, order, sum, product, unary, postfix, primary, constant, opening, name_end, suffix, arguments, balanced_part}
-use Rattle.slicc_ast.specs.TokenKinds.{other_name, machine_type, functional_name, number, quoted, end_of_text, kind_of, sign_kind, word_kind}
-use Rattle.slicc_ast.specs.Parts.{names_of, unbracketed}
-use Rattle.slicc_ast.specs.Ahead.{first_of_form, further_of_form}
+use Rattle.slicc_ast.specs.Form.Form.{item, enumeration, states, structure, member, pair, machine, parameter, literal, out_port, in_port, action, transition, names, formals, formal, block, suffix, balanced_part}
 
 -- what has been read, the last first
 pub data Made : Type 0 where

@@ -1,7 +1,7 @@
 -- One token ahead decides in the table that makes outlines: the test of each form computes.
 use Rattle.std.proofs.Common.{refl}
-use Rattle.slicc_ast.specs.Predictive.{IsPredictive}
-use Rattle.slicc_ast.specs.Form.Form.{file, item, enumeration, states, structure, member, member_end, functional_end, pair, machine, machine_name, parameter, literal, declaration, declaration_end, named_end, body, out_port, in_port, action, transition, transition_end, names, formals, formal, block, statement, statement_end, conditional, otherwise, expression, conjunction, equality, order, sum, product, unary, postfix, primary, constant, opening, name_end, suffix, arguments, balanced_part}
+use Rattle.slicc_ast.specs.Prelude.{IsPredictive, file, member_end, functional_end, machine_name, declaration, declaration_end, named_end, body, transition_end, statement, statement_end, conditional, otherwise, expression, conjunction, equality, order, sum, product, unary, postfix, primary, constant, opening, name_end, arguments}
+use Rattle.slicc_ast.specs.Form.Form.{item, enumeration, states, structure, member, pair, machine, parameter, literal, out_port, in_port, action, transition, names, formals, formal, block, suffix, balanced_part}
 use Rattle.slicc_ast.proofs.Shapes.{shapes}
 use Rattle.slicc_ast.proofs.Shapes.Step.{plain, value, mark}
 

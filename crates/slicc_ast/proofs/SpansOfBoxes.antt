@@ -11,9 +11,8 @@ use Rattle.slicc_ast.specs.declared.tree.expression.Suffix.{Suffix}
 use Rattle.slicc_ast.specs.declared.tree.expression.Expr.TheViews as views
 use Rattle.slicc_ast.specs.declared.tree.expression.Expr.TheViews.{the_lemmas}
 use Rattle.slicc_ast.proofs.Boxes.{Operation_is, Postfix_is, Not_is, Negate_is, IsValid_is, IsInvalid_is, Cast_is, Group_is}
-use Rattle.slicc_ast.specs.Expressions.{args, expr, suffix}
-use Rattle.slicc_ast.specs.Outline.{spans_of}
-use Rattle.slicc_ast.specs.Spans.{operand_spans, suffix_spans}
+use Rattle.slicc_ast.specs.Expressions.{suffix}
+use Rattle.slicc_ast.specs.Prelude.{args, expr, spans_of, operand_spans, suffix_spans}
 use Rattle.slicc_ast.proofs.SpansOfLists.{args_row_spans, operand_row_spans, suffix_row_spans}
 
 pub spans_of_Not : (e : Expr) (span : Span) → spans_of (expr (views.Not e span)) ≡ span ∷ spans_of (expr e)

@@ -3,9 +3,8 @@ use Rattle.std.proofs.Common.{◌≡◌, List, [], ◌∷◌, ◌++◌, ℕ, ◌
 use Rattle.std.proofs.lemmas.List.{take_all}
 use Rattle.std.specs.List.{flat_map}
 use Rattle.slicc_ast.specs.declared.tree.expression.Expr.{Expr, Row_of-Expr, end_of-Expr, more_of-Expr, items-the_row-Expr, Row_of-Operand, end_of-Operand, more_of-Operand, items-the_row-Operand, Row_of-Suffix, end_of-Suffix, more_of-Suffix, items-the_row-Suffix}
-use Rattle.slicc_ast.specs.Outline.{spans_of, spans_in}
-use Rattle.slicc_ast.specs.Expressions.{expr, suffix, operand_row, suffix_row, args_row, more_args_row, args_list, more_args}
-use Rattle.slicc_ast.specs.Spans.{operand_spans, suffix_spans}
+use Rattle.slicc_ast.specs.Prelude.{spans_of, spans_in, expr, operand_row, suffix_row, args_row, more_args_row, args_list, more_args, operand_spans, suffix_spans}
+use Rattle.slicc_ast.specs.Expressions.{suffix}
 
 more_args_spans : (es : List Expr) → spans_in (more_args es) ≡ flat_map (λ e. spans_of (expr e)) es
 more_args_spans [] = refl

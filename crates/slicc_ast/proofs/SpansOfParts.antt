@@ -17,12 +17,11 @@ use Rattle.slicc_ast.specs.declared.tree.machine.Names.{Names}
 use Rattle.slicc_ast.specs.declared.tree.machine.Names.TheVariants.{One, Several}
 use Rattle.slicc_ast.specs.declared.tree.token.Sign.TheVariants.{CloseBrace}
 use Rattle.slicc_ast.specs.declared.tree.span.Span.{Span}
-use Rattle.slicc_ast.specs.Outline.{Parts, none, spans_of, spans_in}
-use Rattle.slicc_ast.specs.Spans.{symbol_spans, state_spans}
-use Rattle.slicc_ast.specs.Names.{sign, star, balanced_part, balanced_row, balanced_list}
-use Rattle.slicc_ast.specs.Declarations.{pair, pair_list, formal, more_formals, formal_list, symbol_list, state_list, member, member_list}
-use Rattle.slicc_ast.specs.Machines.{literal, literal_parts, parameter, parameter_list, decl, decl_list, more_names, name_list, action_list, names, next_parts, type_parts}
-use Rattle.slicc_ast.specs.Trees.{item, item_list}
+use Rattle.slicc_ast.specs.Prelude.{Parts, none, spans_of, spans_in, symbol_spans, state_spans, balanced_row, balanced_list, pair_list, more_formals, formal_list, symbol_list, state_list, member_list, literal_parts, parameter_list, decl, decl_list, more_names, name_list, action_list, next_parts, type_parts, item_list}
+use Rattle.slicc_ast.specs.Names.{sign, star, balanced_part}
+use Rattle.slicc_ast.specs.Declarations.{pair, formal, member}
+use Rattle.slicc_ast.specs.Machines.{literal, parameter, names}
+use Rattle.slicc_ast.specs.Trees.{item}
 
 pub pair_list_spans : (ps : List Pair) → spans_in (pair_list ps) ≡ flat_map (λ p. spans_of (pair p)) ps
 pair_list_spans [] = refl

@@ -12,12 +12,8 @@ use Rattle.slicc_ast.specs.declared.tree.statement.Stmt.{Stmt, Return, Peek, Enq
 use Rattle.slicc_ast.specs.declared.tree.statement.If.{If, If', None', Some', Row_of-ElseIf, end_of-ElseIf, more_of-ElseIf, items-the_row-ElseIf, out-If}
 use Rattle.slicc_ast.specs.declared.tree.expression.Expr.{Expr}
 use Rattle.slicc_ast.specs.declared.tree.statement.Block.{Block}
-use Rattle.slicc_ast.specs.Spans.{else_if_spans}
-use Rattle.slicc_ast.specs.Outline.{Parts, none, spans_of, spans_in}
-use Rattle.slicc_ast.specs.Expressions.{expr}
+use Rattle.slicc_ast.specs.Prelude.{else_if_spans, Parts, none, spans_of, spans_in, expr, pair_list, stmt, stmt_row, stmt_list, block_end, block_outline, if_outline, else_if_row, latency_parts, optional_expr}
 use Rattle.slicc_ast.specs.Names.{sign}
-use Rattle.slicc_ast.specs.Declarations.{pair_list}
-use Rattle.slicc_ast.specs.Statements.{stmt, stmt_row, stmt_list, block_end, block_outline, if_outline, else_if_row, latency_parts, optional_expr}
 
 pub stmt_list_spans : (ss : List Stmt) → spans_in (stmt_list ss block_end) ≡ flat_map (λ s. spans_of (stmt s)) ss
 stmt_list_spans [] = refl

@@ -1,14 +1,8 @@
 -- What a row and the rows behind it begin with, and what they are of no token.
 use Rattle.std.proofs.Common.{◌≡◌, ℕ, ◌≤◌, Bool, true, false, ◌&&◌, cond, List, [], ◌∷◌, refl, sym, ◌⊎◌, inl, inr, arith, le_refl, le_trans}
 use Rattle.std.proofs.lemmas.Bool.{and_from, false≢true}
-use Rattle.slicc_ast.specs.Kinds.{has}
-use Rattle.slicc_ast.specs.Grammar.{Row, Rows, Grammar, nestings_of, is_nullable, first_of}
-use Rattle.slicc_ast.specs.Grammar.Row.{form, maybe, many}
-use Rattle.slicc_ast.specs.Grammar.Rows.{end, next, up}
-use Rattle.slicc_ast.specs.Matches.{Extent, Matches}
-use Rattle.slicc_ast.specs.Matches.Extent.{Whole, Front}
-use Rattle.slicc_ast.specs.Matches.Matches.{stopped, ended, one, alternative, present, absent, again, enough, inside, on, outside}
-use Rattle.slicc_ast.specs.Predictive.{IsPredictive}
+use Rattle.slicc_ast.specs.Prelude.{has, Row, Rows, Grammar, nestings_of, is_nullable, first_of, form, maybe, many, end, next, up, Extent, Matches, Whole, Front, stopped, ended, one, alternative, IsPredictive}
+use Rattle.slicc_ast.specs.Matches.Matches.{present, absent, again, enough, inside, on, outside}
 use Rattle.slicc_ast.proofs.KindSets.{in_left, in_right, of_subset, in_cond}
 use Rattle.slicc_ast.proofs.Tables.{Agrees, agrees_at}
 

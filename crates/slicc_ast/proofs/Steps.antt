@@ -1,15 +1,9 @@
 -- The steps by which a reader comes through a part, or stops in it: those of its parts, one behind another.
 use Rattle.std.proofs.Common.{◌≡◌, ℕ, suc, true, false, List, ◌∷◌, Some}
 use Rattle.std.specs.List.{slice_get}
-use Rattle.slicc_ast.specs.Kinds.{has, is_ahead}
-use Rattle.slicc_ast.specs.Grammar.{Row, Grammar, is_nullable, first_of}
-use Rattle.slicc_ast.specs.Grammar.Row.{done, token, form, maybe, many, nested}
-use Rattle.slicc_ast.specs.Grammar.Rows.{end, next, up}
-use Rattle.slicc_ast.specs.Faults.{Stop, IsFirstFault}
-use Rattle.slicc_ast.specs.Faults.Stop.{Passed, Deep}
-use Rattle.slicc_ast.specs.Predictive.{IsPredictive}
-use Rattle.slicc_ast.specs.Reader.{refusal, Passes, Fails, followed_by}
-use Rattle.slicc_ast.specs.Reader.Stops.{read, on, outside, taken, refused, chosen, by_default, unformed, present, absent, again, enough, inside, too_deep, unopened}
+use Rattle.slicc_ast.specs.Prelude.{has, is_ahead, Row, Grammar, is_nullable, first_of, done, form, maybe, many, nested, end, next, up, Stop, IsFirstFault, Passed, Deep, IsPredictive, refusal, Passes, Fails, followed_by, read, taken, refused, chosen, by_default, unformed, too_deep, unopened}
+use Rattle.slicc_ast.specs.Grammar.Row.{token}
+use Rattle.slicc_ast.specs.Reader.Stops.{on, outside, present, absent, again, enough, inside}
 use Rattle.slicc_ast.proofs.FirstFault.{stop_is_first_fault}
 
 module _ {F : Type 0} (g : Grammar F) (depth : ℕ) where

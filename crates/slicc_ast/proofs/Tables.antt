@@ -3,9 +3,7 @@ use Rattle.std.proofs.Common.{◌≡◌, ℕ, zero, suc, ◌<◌, Bool, true, no
 use Rattle.std.specs.List.{slice_get, list_all, flat_map, Contains}
 use Rattle.std.proofs.lemmas.Bool.{or_cases, and_parts, and_from, both_ways, not-true, cases_eq}
 use Rattle.std.proofs.lemmas.Option.{same_Some}
-use Rattle.slicc_ast.specs.Kinds.{has, is_subset, are_disjoint}
-use Rattle.slicc_ast.specs.Grammar.{Row, Grammar, is_nullable, first_of, further_of}
-use Rattle.slicc_ast.specs.Predictive.{is_decided, differs_from_all, are_different, agrees_with, is_form_predictive, is_predictive, IsPredictive}
+use Rattle.slicc_ast.specs.Prelude.{has, is_subset, are_disjoint, Row, Grammar, is_nullable, first_of, further_of, is_decided, differs_from_all, are_different, agrees_with, is_form_predictive, is_predictive, IsPredictive}
 use Rattle.slicc_ast.proofs.KindSets.{of_disjoint}
 
 pub and_three : (x y z : Bool) → x && y && z ≡ true → (x ≡ true) × (y ≡ true) × (z ≡ true)

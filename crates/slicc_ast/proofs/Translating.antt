@@ -3,14 +3,9 @@
 use Rattle.std.proofs.Common.{◌≡◌, ℕ, zero, suc, true, List, [], ◌∷◌, Option, Some, None, refl, subst, ap, ◌⊎◌, inl, inr, arith}
 use Rattle.std.specs.List.{slice_get}
 use Rattle.std.proofs.lemmas.Option.{same_Some}
-use Rattle.slicc_ast.specs.Kinds.{has, is_subset}
-use Rattle.slicc_ast.specs.Grammar.{Row, Rows, Grammar, nestings_of}
-use Rattle.slicc_ast.specs.Grammar.Row.{token, form, maybe, many, nested}
-use Rattle.slicc_ast.specs.Grammar.Rows.{next, up}
-use Rattle.slicc_ast.specs.Matches.{Extent, Matches}
-use Rattle.slicc_ast.specs.Matches.Extent.{Front}
-use Rattle.slicc_ast.specs.Matches.Matches.{stopped, ended, one, alternative, present, absent, again, enough, inside, on, outside}
-use Rattle.slicc_ast.specs.Same.{joined, Covers}
+use Rattle.slicc_ast.specs.Prelude.{has, is_subset, Row, Rows, Grammar, nestings_of, form, maybe, many, nested, next, up, Extent, Matches, Front, stopped, ended, one, alternative, joined, Covers}
+use Rattle.slicc_ast.specs.Grammar.Row.{token}
+use Rattle.slicc_ast.specs.Matches.Matches.{present, absent, again, enough, inside, on, outside}
 use Rattle.slicc_ast.proofs.KindSets.{of_subset}
 use Rattle.slicc_ast.proofs.Joining.{merge, part}
 use Rattle.slicc_ast.proofs.Rewriting.{fold}

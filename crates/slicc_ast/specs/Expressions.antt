@@ -1,10 +1,10 @@
 -- Expressions as rows of parts. The operators of a node are of one level, and its operands of tighter ones, so that a list
 -- of tokens is an expression in one way alone. Operators of one level group to the left.
 use Rattle.std.specs.Prelude.{◌==◌, ℕ, Bool, true, false, nat_le, nat_lt, Option, Some, None, List, [], ◌∷◌}
-use Rattle.slicc_ast.specs.declared.tree.token.TokenKind.TheVariants.{Name as Named, Number as Numeral, Quoted}
-use Rattle.slicc_ast.specs.declared.tree.token.Word.TheVariants.{True as TrueWord, False as FalseWord, Ood, New as NewWord, IsValid as IsValidWord, IsInvalid as IsInvalidWord, StaticCast}
-use Rattle.slicc_ast.specs.declared.tree.token.Sign.{Sign as SignKind}
-use Rattle.slicc_ast.specs.declared.tree.token.Sign.TheVariants.{OpenParenthesis, CloseParenthesis, OpenBracket, CloseBracket, Colon, Comma, Dot, Equal as EqualSign, Unequal as UnequalSign, Less as LessSign, Greater as GreaterSign, LessOrEqual as LessOrEqualSign, GreaterOrEqual as GreaterOrEqualSign, Plus as PlusSign, Minus as MinusSign, Star, Not as NotSign, And as AndSign, Or as OrSign}
+use Rattle.slicc_ast.specs.declared.tree.token.TokenKind.TheVariants.{Name, Number as Numeral, Quoted}
+use Rattle.slicc_ast.specs.declared.tree.token.Word.TheVariants.{True as TrueWord, False as FalseWord, Ood, New as NewWord, IsValid, IsInvalid, StaticCast}
+use Rattle.slicc_ast.specs.declared.tree.token.Sign.{Sign}
+use Rattle.slicc_ast.specs.declared.tree.token.Sign.TheVariants.{OpenParenthesis, CloseParenthesis, OpenBracket, CloseBracket, Colon, Comma, Dot, Equal as EqualSign, Unequal as UnequalSign, Less as LessSign, Greater as GreaterSign, LessOrEqual as LessOrEqualSign, GreaterOrEqual as GreaterOrEqualSign, Plus as PlusSign, Minus as MinusSign, Star, Not, And as AndSign, Or as OrSign}
 use Rattle.slicc_ast.specs.declared.tree.expression.Operator.{Operator}
 use Rattle.slicc_ast.specs.declared.tree.expression.Operator.TheVariants.{Or, And, Equal, Unequal, Less, Greater, LessOrEqual, GreaterOrEqual, Plus, Minus, Times}
 use Rattle.slicc_ast.specs.declared.tree.expression.Args.{Args}
@@ -15,7 +15,7 @@ use Rattle.slicc_ast.specs.Boxes.{Operation', Not', Negate', Postfix', IsValid',
 use Rattle.slicc_ast.specs.Outline.{Outline, node, Parts, none, token, part, provided}
 use Rattle.slicc_ast.specs.Names.{word, sign, name, type_name}
 
-abbrev pub operator_sign : Operator → SignKind
+abbrev pub operator_sign : Operator → Sign
 operator_sign Or = OrSign
 operator_sign And = AndSign
 operator_sign Equal = EqualSign
@@ -74,7 +74,7 @@ abbrev mutual
   expr (Operation' first n others span) =
       node span (provided (nat_lt 0 (row_level others)) (provided (nat_lt (row_level others) (level_of first))
       (part (expr first) (operand_row (row_level others) others))))
-  expr (Not' operand span) = node span (provided (nat_le 7 (level_of operand)) (sign NotSign (part (expr operand) none)))
+  expr (Not' operand span) = node span (provided (nat_le 7 (level_of operand)) (sign Not (part (expr operand) none)))
   expr (Negate' operand span) = node span (provided (nat_le 7 (level_of operand)) (sign MinusSign (part (expr operand) none)))
   expr (Postfix' value n suffixes span) =
       node span (provided (has_suffix suffixes) (provided (nat_le 9 (level_of value))
@@ -83,15 +83,15 @@ abbrev mutual
   expr (True span) = node span (word TrueWord none)
   expr (False span) = node span (word FalseWord none)
   expr (Nothing span) = node span (word Ood none)
-  expr (Variable variable) = node variable.span (token (Named variable.text) none)
+  expr (Variable variable) = node variable.span (token (Name variable.text) none)
   expr (Member owner member span) = node span (name owner (sign Colon (name member none)))
   expr (Call' function shape row arguments span) =
       node span (name function (sign OpenParenthesis (part (node arguments (args_row row)) (sign CloseParenthesis none))))
   expr (New made span) = node span (word NewWord (name made none))
   expr (IsValid' value span) =
-      node span (word IsValidWord (sign OpenParenthesis (part (expr value) (sign CloseParenthesis none))))
+      node span (word IsValid (sign OpenParenthesis (part (expr value) (sign CloseParenthesis none))))
   expr (IsInvalid' value span) =
-      node span (word IsInvalidWord (sign OpenParenthesis (part (expr value) (sign CloseParenthesis none))))
+      node span (word IsInvalid (sign OpenParenthesis (part (expr value) (sign CloseParenthesis none))))
   expr (Cast' target mode value span) =
       node span (word StaticCast (sign OpenParenthesis (type_name target (sign Comma
       (mode_parts mode (part (expr value) (sign CloseParenthesis none)))))))

@@ -24,3 +24,4 @@ pub mod Predictive
 pub mod Reader
 pub mod Choices
 pub mod Same
+pub mod Prelude

@@ -3,7 +3,7 @@ use Rattle.std.specs.Prelude.{Option, Some, None, List, [], ◌∷◌}
 use Rattle.slicc_ast.specs.declared.tree.span.Span.{Span}
 use Rattle.slicc_ast.specs.declared.tree.token.TokenKind.TheVariants.{Quoted}
 use Rattle.slicc_ast.specs.declared.tree.token.Word.{Word}
-use Rattle.slicc_ast.specs.declared.tree.token.Word.TheVariants.{Peek as PeekWord, Enqueue as EnqueueWord, StallAndWait as StallAndWaitWord, CheckAllocate as CheckAllocateWord, If as IfWord, Else as ElseWord, Return as ReturnWord, Error as ErrorWord, Assert as AssertWord, Dprintf as DprintfWord, AppendTransitionComment as CommentWord}
+use Rattle.slicc_ast.specs.declared.tree.token.Word.TheVariants.{Peek, Enqueue, StallAndWait as StallAndWaitWord, CheckAllocate as CheckAllocateWord, If as IfWord, Else, Return as ReturnWord, Error as ErrorWord, Assert as AssertWord, Dprintf as DprintfWord, AppendTransitionComment as CommentWord}
 use Rattle.slicc_ast.specs.declared.tree.token.Sign.TheVariants.{OpenBrace, CloseBrace, OpenParenthesis, CloseParenthesis, Semicolon, Comma, Assign as AssignSign}
 use Rattle.slicc_ast.specs.declared.tree.expression.Expr.{Expr}
 use Rattle.slicc_ast.specs.declared.tree.statement.PrintWord.{PrintWord}
@@ -46,10 +46,10 @@ abbrev mutual
   stmt (Return value span) = node span (word ReturnWord (optional_expr value (sign Semicolon none)))
   stmt (IfStmt i) = if_outline i
   stmt (Peek' port message attributes shape row block span) =
-      node span (word PeekWord (sign OpenParenthesis (name port (sign Comma (type_name message (pairs attributes
+      node span (word Peek (sign OpenParenthesis (name port (sign Comma (type_name message (pairs attributes
       (sign CloseParenthesis (block_part block (stmt_row row block_end) none))))))))
   stmt (Enqueue' port message latency shape row block span) =
-      node span (word EnqueueWord (sign OpenParenthesis (name port (sign Comma (type_name message (latency_parts latency
+      node span (word Enqueue (sign OpenParenthesis (name port (sign Comma (type_name message (latency_parts latency
       (sign CloseParenthesis (block_part block (stmt_row row block_end) none))))))))
   stmt (StallAndWait port address span) =
       node span (word StallAndWaitWord (sign OpenParenthesis (name port (sign Comma (part (expr address)
@@ -72,13 +72,13 @@ abbrev mutual
   pub else_if_row : {m : _} → Row_of-ElseIf m → Parts → Parts
   else_if_row end_of-ElseIf parts = parts
   else_if_row (more_of-ElseIf condition shape row block more) parts =
-      word ElseWord (word IfWord (sign OpenParenthesis (part (expr condition) (sign CloseParenthesis
+      word Else (word IfWord (sign OpenParenthesis (part (expr condition) (sign CloseParenthesis
       (block_part block (stmt_row row block_end) (else_if_row more parts))))))
 
   -- [ else block ]
   pub else_part : Held-If-otherwise → Parts → Parts
   else_part None' parts = parts
-  else_part (Some' shape row block) parts = word ElseWord (block_part block (stmt_row row block_end) parts)
+  else_part (Some' shape row block) parts = word Else (block_part block (stmt_row row block_end) parts)
 
   pub stmt_row : {m : _} → Row_of-Stmt m → Parts → Parts
   stmt_row end_of-Stmt parts = parts

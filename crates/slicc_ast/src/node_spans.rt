@@ -1,7 +1,7 @@
 //! The spans of a tree's nodes, in the order of the text.
 ghost use Rattle.std.specs.Prelude.{◌≡◌, ◌++◌, List, OnOk};
 ghost use Rattle.std.specs.List.{flat_map};
-ghost use Rattle.slicc_ast.specs.declared.tree.span.Span.{Span as SpanRecord};
+ghost use Rattle.slicc_ast.specs.declared.tree.span.Span.{Span};
 
 mod balanced;
 mod declaration;
@@ -15,7 +15,7 @@ use ruby_base::{NoMemory, Seq};
 
 /// What has nodes, and so spans.
 pub trait Spanned {
-    ghost spans_at: { Self → List SpanRecord };
+    ghost spans_at: { Self → List Span };
 
     /// Adds the spans of its nodes in the order of the text.
     fn add_to(&self, spans: &mut Seq<Span>) -> Result<(), NoMemory>

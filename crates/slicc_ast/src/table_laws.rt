@@ -2,17 +2,8 @@
 // are the laws.
 ghost use Rattle.std.specs.Prelude.{◌≡◌, ◌↔◌, ◌⊎◌, ℕ, zero, suc, Bool, true, false, List, [], ◌∷◌, ◌++◌, Option, Some};
 ghost use Rattle.std.specs.List.{Contains, slice_get};
-ghost use Rattle.slicc_ast.specs.Choices.{choices_of};
-ghost use Rattle.slicc_ast.specs.Faults.{IsFirstFault, IsStop, IsWithin, Stop};
-ghost use Rattle.slicc_ast.specs.Faults.Stop.{Bad, Deep, Passed};
-ghost use Rattle.slicc_ast.specs.Grammar.{Grammar, Row, Rows, first_of, is_nullable};
-ghost use Rattle.slicc_ast.specs.Grammar.Row.{done, form, many, maybe, nested, token};
-ghost use Rattle.slicc_ast.specs.Grammar.Rows.{end};
-ghost use Rattle.slicc_ast.specs.Kinds.{has, is_ahead};
-ghost use Rattle.slicc_ast.specs.Matches.{Begins, Derives, Extent, IsViable, Matches};
-ghost use Rattle.slicc_ast.specs.Predictive.{IsPredictive, is_predictive};
-ghost use Rattle.slicc_ast.specs.Reader.{Fails, Passes, Stops, followed_by, refusal};
-ghost use Rattle.slicc_ast.specs.Same.{Covers, HaveSameLists, joined};
+ghost use Rattle.slicc_ast.specs.Prelude.{choices_of, IsFirstFault, IsStop, IsWithin, Stop, Bad, Deep, Passed, Grammar, Row, Rows, first_of, is_nullable, done, form, many, maybe, nested, end, has, is_ahead, Begins, Derives, Extent, IsViable, Matches, IsPredictive, is_predictive, Fails, Passes, Stops, followed_by, refusal, Covers, HaveSameLists, joined};
+ghost use Rattle.slicc_ast.specs.Grammar.Row.{token};
 
 /// Where one token ahead decides, a reader that goes by it stops exactly where the list does: at the first token with
 /// which the list so far begins no list of the form, or at the first that opens a nesting above the limit, or behind the

@@ -3,12 +3,10 @@ use Rattle.std.proofs.Common.{◌≡◌, ℕ, ◌==◌, Bool, true, false, ◌||
 use Rattle.std.proofs.lemmas.Bool.{false≢true}
 use Rattle.slicc_ast.specs.declared.tree.token.Sign.TheVariants.{Minus}
 use Rattle.slicc_ast.specs.declared.tree.token.Word.TheVariants.{True, False}
-use Rattle.slicc_ast.specs.Kinds.{has, is_ahead}
-use Rattle.slicc_ast.specs.Ahead.{first_of_form}
+use Rattle.slicc_ast.specs.Prelude.{has, is_ahead, first_of_form, kind_of, number, quoted, sign_kind, word_kind}
 use Rattle.slicc_ast.specs.Form.Form.{literal}
-use Rattle.slicc_ast.specs.TokenKinds.{kind_of, number, quoted, sign_kind, word_kind}
 use Rattle.slicc_lex.specs.declared.token.Token.{Token}
-use Rattle.slicc_lex.specs.Syntax.{symbols}
+use Rattle.slicc_lex.specs.Prelude.{symbols}
 
 none_of : (a b c d e : Bool) → a || false ≡ false → b || false ≡ false → c || false ≡ false → d || false ≡ false → e || false ≡ false → a || (b || (c || (d || (e || false)))) ≡ false
 none_of false false false false false p q r s t = refl

@@ -9,16 +9,15 @@ use Rattle.slicc_ast.specs.declared.tree.declaration.Member.{Member}
 use Rattle.slicc_ast.specs.declared.tree.machine.Parameter.{Parameter}
 use Rattle.slicc_ast.specs.declared.tree.name.Name.{Name}
 use Rattle.slicc_ast.specs.declared.tree.token.Sign.TheVariants.{Comma}
-use Rattle.slicc_ast.specs.Declarations.{formal, formal_list, member, member_list, more_formals, pair_list, state_list, symbol_list}
-use Rattle.slicc_ast.specs.Machines.{action_list, more_names, name_list, parameter, parameter_list}
+use Rattle.slicc_ast.specs.Declarations.{formal, member}
+use Rattle.slicc_ast.specs.Prelude.{formal_list, member_list, more_formals, pair_list, state_list, symbol_list, action_list, more_names, name_list, parameter_list, Parts, none, part, provided}
+use Rattle.slicc_ast.specs.Machines.{parameter}
 use Rattle.slicc_ast.specs.Names.{name, sign}
-use Rattle.slicc_ast.specs.Outline.{Parts, none, part, provided}
 use Rattle.slicc_ast.specs.Parts.{Part}
 use Rattle.slicc_lex.specs.declared.token.Token.{Token}
 use Rattle.slicc_reading.specs.declared.fault.Fault.{Fault}
-use Rattle.slicc_reading.specs.Reading.{AreParts, AreRead, Refuses}
-use Rattle.slicc_reading.specs.Reading.AreParts.{allowed, nothing}
-use Rattle.slicc_decl.specs.Members.{action_parts, pair_parts, state_parts, symbol_parts}
+use Rattle.slicc_reading.specs.Prelude.{AreParts, AreRead, Refuses, allowed, nothing}
+use Rattle.slicc_decl.specs.Prelude.{action_parts, pair_parts, state_parts, symbol_parts}
 use Rattle.slicc_reading.proofs.Repeats.{each}
 
 pub each_symbol : (items : List Symbol) (others : Parts) → symbol_list items others ≡ each symbol_parts items others

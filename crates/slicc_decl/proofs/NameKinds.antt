@@ -7,26 +7,15 @@ use Rattle.slicc_ast.specs.declared.tree.span.Span.{Span}
 use Rattle.slicc_ast.specs.declared.tree.token.TokenKind.{TokenKind}
 use Rattle.slicc_ast.specs.declared.tree.token.TokenKind.TheVariants.{Name as Named}
 use Rattle.slicc_ast.specs.declared.tree.name.Name.{Name}
-use Rattle.slicc_ast.specs.Declarations.{is_skipped}
-use Rattle.slicc_ast.specs.Outline.{node, none, Parts, token}
-use Rattle.slicc_ast.specs.Faults.{Stop}
-use Rattle.slicc_ast.specs.Faults.Stop.{Passed}
-use Rattle.slicc_ast.specs.Grammar.Row.{done, token as token_row}
-use Rattle.slicc_ast.specs.Grammar.Rows.{end}
-use Rattle.slicc_ast.specs.Kinds.{has, is_ahead}
-use Rattle.slicc_ast.specs.Reader.{Passes, Stops}
-use Rattle.slicc_ast.specs.Reader.Stops.{read, refused, taken}
+use Rattle.slicc_ast.specs.Prelude.{is_skipped, node, none, Parts, Stop, Passed, done, end, has, is_ahead, Passes, Stops, read, refused, taken, names_of, table, functional_name, kind_of, machine_type, name_kind, other_name}
+use Rattle.slicc_ast.specs.Outline.{token}
+use Rattle.slicc_ast.specs.Grammar.Row.{token as token_row}
 use Rattle.slicc_ast.proofs.Steps.{passes_token}
-use Rattle.slicc_ast.specs.Parts.{Part, names_of}
-use Rattle.slicc_ast.specs.Table.{table}
-use Rattle.slicc_ast.specs.TokenKinds.{functional_name, kind_of, machine_type, name_kind, other_name}
+use Rattle.slicc_ast.specs.Parts.{Part}
 use Rattle.slicc_lex.specs.declared.token.Token.{Token}
-use Rattle.slicc_lex.specs.Syntax.{symbols}
+use Rattle.slicc_lex.specs.Prelude.{symbols}
 use Rattle.slicc_reading.specs.declared.fault.Fault.{Fault}
-use Rattle.slicc_reading.specs.Reading.{AreParts, AreRead, IsNode, IsRead, IsStopOf, Refuses}
-use Rattle.slicc_reading.specs.Reading.AreParts.{nothing, one}
-use Rattle.slicc_reading.specs.Reading.IsNode.{spelled}
-use Rattle.slicc_reading.specs.Reading.Refuses.{no_memory, stops}
+use Rattle.slicc_reading.specs.Prelude.{AreParts, AreRead, IsNode, IsRead, IsStopOf, Refuses, nothing, one, spelled, no_memory, stops}
 
 passed_never : {rest : List ℕ} {fault : Fault} → IsStopOf (Passed rest) fault → ⊥
 passed_never is = elim is [ ]

@@ -8,11 +8,11 @@ use Rattle.slicc_ast.specs.declared.tree.declaration.State.{State}
 use Rattle.slicc_ast.specs.declared.tree.declaration.Symbol.{Symbol}
 use Rattle.slicc_ast.specs.declared.tree.name.Name.{Name}
 use Rattle.slicc_ast.specs.declared.tree.token.Sign.TheVariants.{CloseBrace, CloseParenthesis, Colon, Comma, OpenBrace, OpenParenthesis, Semicolon}
-use Rattle.slicc_ast.specs.Declarations.{member_list, pair, pairs as pairs_of}
+use Rattle.slicc_ast.specs.Declarations.{pair, pairs as pairs_of}
+use Rattle.slicc_ast.specs.Prelude.{member_list, Parts, part, functional_end, transition_end, ◌▸◌, braces, colon, comma, of, optional, parentheses, repeated, semicolon, skipped_name}
 use Rattle.slicc_ast.specs.Names.{balanced as balanced_of, name as name_of, sign}
-use Rattle.slicc_ast.specs.Outline.{Parts, part}
-use Rattle.slicc_ast.specs.Form.Form.{functional_end, member, names, transition_end}
-use Rattle.slicc_ast.specs.Parts.{Part, ◌▸◌, balanced, braces, colon, comma, name, of, optional, pairs, parentheses, repeated, semicolon, sign as sign_part, skipped_name}
+use Rattle.slicc_ast.specs.Form.Form.{member, names}
+use Rattle.slicc_ast.specs.Parts.{Part, balanced, name, pairs, sign as sign_part}
 
 -- a member of an enumeration
 abbrev pub symbol_row : Part

@@ -1,26 +1,24 @@
 //! The head of a machine: its name, its title, attributes and parameters.
 ghost use Rattle.std.specs.Prelude.{◌≡◌, ◌∷◌, [], codes, MatchResult};
 ghost use Rattle.std.specs.Str.{bytes_eq};
-ghost use Rattle.slicc_ast.specs.Kinds.{has, is_ahead};
+ghost use Rattle.slicc_ast.specs.Prelude.{has, is_ahead, parameter_list, type_parts, machine_name, ◌▸◌, colon, comma, of, parentheses, repeated, string, kind_of, machine_type};
 ghost use Rattle.slicc_ast.specs.Declarations.{pairs as pairs_of};
-ghost use Rattle.slicc_ast.specs.Machines.{parameter_list as parameter_parts, type_parts};
 ghost use Rattle.slicc_ast.specs.Names.{name as name_of, sign as sign_of};
 ghost use Rattle.slicc_ast.specs.Outline.{token};
 ghost use Rattle.slicc_ast.specs.declared.tree.token.Sign.TheVariants.{CloseParenthesis, Colon, Comma, OpenParenthesis};
-ghost use Rattle.slicc_ast.specs.declared.tree.token.TokenKind.TheVariants.{Quoted as QuotedKind};
-ghost use Rattle.slicc_ast.specs.Form.Form.{machine_name as machine_name_form, parameter as parameter_form};
-ghost use Rattle.slicc_ast.specs.Parts.{◌▸◌, colon, comma, name as name_part, of, pairs as pairs_part, parentheses, repeated, sign as sign_part, string as string_part};
-ghost use Rattle.slicc_ast.specs.TokenKinds.{kind_of, machine_type};
-ghost use Rattle.slicc_lex.specs.Syntax.{symbols};
-ghost use Rattle.slicc_reading.specs.Reading.{AreRead, Refuses};
+ghost use Rattle.slicc_ast.specs.declared.tree.token.TokenKind.TheVariants.{Quoted};
+ghost use Rattle.slicc_ast.specs.Form.Form.{parameter};
+ghost use Rattle.slicc_ast.specs.Parts.{name as name_part, pairs as pairs_part, sign as sign_part};
+ghost use Rattle.slicc_lex.specs.Prelude.{symbols};
+ghost use Rattle.slicc_reading.specs.Prelude.{AreRead, Refuses};
 
-use crate::heads::ended_pairs;
+use crate::heads::{ReadBoth, ended_pairs};
 use crate::parameters::parameter;
 use slicc_ast::Text;
 use slicc_ast::tree::{Name, Pairs, Parameter, Sign, TokenKind};
 use slicc_lex::Token;
 use slicc_reading::{
-    Fault, is_name, is_sign, name, name_after, open, refuse, sign, split_first, string,
+    Fault, Read, is_name, is_sign, name, name_after, open, refuse, sign, split_first, string,
 };
 use std::alloc::Global;
 
@@ -50,10 +48,10 @@ fn is_machine_type(tokens: &[Token]) -> bool
 }
 
 /// The name of a machine, and whether `MachineType:` is before it.
-fn machine_name(alloc: Global, room: u32, tokens: &[Token]) -> Result<(bool, Name, &[Token]), Fault>
+fn machine_name(alloc: Global, room: u32, tokens: &[Token]) -> ReadBoth<bool, Name>
     ensures { MatchResult result
-        (λ read. AreRead room (of machine_name_form) (λ others. type_parts read.0 (name_of read.1 others)) tokens.now read.2.now)
-        (Refuses room (of machine_name_form) tokens.now) }
+        (λ read. AreRead room (of machine_name) (λ others. type_parts read.0 (name_of read.1 others)) tokens.now read.2.now)
+        (Refuses room (of machine_name) tokens.now) }
 {
     if !is_name(tokens) {
         return Err(refuse(room, tokens));
@@ -77,14 +75,10 @@ fn machine_name(alloc: Global, room: u32, tokens: &[Token]) -> Result<(bool, Nam
 }
 
 /// A comma, a title, attributes and `)`.
-fn title_and_pairs(
-    alloc: Global,
-    room: u32,
-    tokens: &[Token],
-) -> Result<(Text, Pairs, &[Token]), Fault>
+fn title_and_pairs(alloc: Global, room: u32, tokens: &[Token]) -> ReadBoth<Text, Pairs>
     ensures { MatchResult result
-        (λ read. AreRead room (comma ▸ string_part ▸ pairs_part ▸ sign_part CloseParenthesis) (λ others. sign_of Comma (token (QuotedKind read.0) (pairs_of read.1 (sign_of CloseParenthesis others)))) tokens.now read.2.now)
-        (Refuses room (comma ▸ string_part ▸ pairs_part ▸ sign_part CloseParenthesis) tokens.now) }
+        (λ read. AreRead room (comma ▸ string ▸ pairs_part ▸ sign_part CloseParenthesis) (λ others. sign_of Comma (token (Quoted read.0) (pairs_of read.1 (sign_of CloseParenthesis others)))) tokens.now read.2.now)
+        (Refuses room (comma ▸ string ▸ pairs_part ▸ sign_part CloseParenthesis) tokens.now) }
 {
     match sign(room, Sign::Comma, tokens) {
         Ok(inside) => match string(alloc, room, inside) {
@@ -109,10 +103,10 @@ pub struct MachineHead {
     pub pairs: Pairs,
 }
 
-fn closed_head(alloc: Global, room: u32, tokens: &[Token]) -> Result<(MachineHead, &[Token]), Fault>
+fn closed_head(alloc: Global, room: u32, tokens: &[Token]) -> Read<MachineHead>
     ensures { MatchResult result
-        (λ read. AreRead room (of machine_name_form ▸ comma ▸ string_part ▸ pairs_part ▸ sign_part CloseParenthesis) (λ others. type_parts read.0.has_type (name_of read.0.name (sign_of Comma (token (QuotedKind read.0.title) (pairs_of read.0.pairs (sign_of CloseParenthesis others)))))) tokens.now read.1.now)
-        (Refuses room (of machine_name_form ▸ comma ▸ string_part ▸ pairs_part ▸ sign_part CloseParenthesis) tokens.now) }
+        (λ read. AreRead room (of machine_name ▸ comma ▸ string ▸ pairs_part ▸ sign_part CloseParenthesis) (λ others. type_parts read.0.has_type (name_of read.0.name (sign_of Comma (token (Quoted read.0.title) (pairs_of read.0.pairs (sign_of CloseParenthesis others)))))) tokens.now read.1.now)
+        (Refuses room (of machine_name ▸ comma ▸ string ▸ pairs_part ▸ sign_part CloseParenthesis) tokens.now) }
 {
     match machine_name(alloc, room, tokens) {
         Ok((has_type, name, behind)) => match title_and_pairs(alloc, room, behind) {
@@ -132,14 +126,10 @@ fn closed_head(alloc: Global, room: u32, tokens: &[Token]) -> Result<(MachineHea
 }
 
 /// A machine's name, title and attributes in parentheses.
-pub fn machine_head(
-    alloc: Global,
-    room: u32,
-    tokens: &[Token],
-) -> Result<(MachineHead, &[Token]), Fault>
+pub fn machine_head(alloc: Global, room: u32, tokens: &[Token]) -> Read<MachineHead>
     ensures { MatchResult result
-        (λ read. AreRead room (parentheses (of machine_name_form ▸ comma ▸ string_part ▸ pairs_part)) (λ others. sign_of OpenParenthesis (type_parts read.0.has_type (name_of read.0.name (sign_of Comma (token (QuotedKind read.0.title) (pairs_of read.0.pairs (sign_of CloseParenthesis others))))))) tokens.now read.1.now)
-        (Refuses room (parentheses (of machine_name_form ▸ comma ▸ string_part ▸ pairs_part)) tokens.now) }
+        (λ read. AreRead room (parentheses (of machine_name ▸ comma ▸ string ▸ pairs_part)) (λ others. sign_of OpenParenthesis (type_parts read.0.has_type (name_of read.0.name (sign_of Comma (token (Quoted read.0.title) (pairs_of read.0.pairs (sign_of CloseParenthesis others))))))) tokens.now read.1.now)
+        (Refuses room (parentheses (of machine_name ▸ comma ▸ string ▸ pairs_part)) tokens.now) }
 {
     match open(room, Sign::OpenParenthesis, tokens) {
         Ok(behind) => closed_head(alloc, room - 1, behind),
@@ -148,14 +138,10 @@ pub fn machine_head(
 }
 
 /// The parameters of a machine.
-pub fn parameter_list(
-    alloc: Global,
-    room: u32,
-    tokens: &[Token],
-) -> Result<(Vec<Parameter>, &[Token]), Fault>
+pub fn parameter_list(alloc: Global, room: u32, tokens: &[Token]) -> Read<Vec<Parameter>>
     ensures { MatchResult result
-        (λ read. AreRead room (repeated (of parameter_form)) (parameter_parts read.0.items) tokens.now read.1.now)
-        (Refuses room (repeated (of parameter_form)) tokens.now) }
+        (λ read. AreRead room (repeated (of parameter)) (parameter_list read.0.items) tokens.now read.1.now)
+        (Refuses room (repeated (of parameter)) tokens.now) }
 {
     let mut items = Vec::new(alloc);
     let mut left = tokens;

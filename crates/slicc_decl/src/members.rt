@@ -1,22 +1,24 @@
 //! Enumerations and a machine's states: declarations whose members are names with attributes.
 ghost use Rattle.std.specs.Prelude.{◌<◌, length, IfOk, MatchResult};
-ghost use Rattle.slicc_ast.specs.Declarations.{enumeration as enumeration_of, pairs as pairs_of, state_list, states as states_of, symbol_list};
-ghost use Rattle.slicc_ast.specs.Names.{name as name_of, sign as sign_of};
+ghost use Rattle.slicc_ast.specs.Declarations.{enumeration, pairs, states};
+ghost use Rattle.slicc_ast.specs.Prelude.{state_list, symbol_list, ◌▸◌, braces, of, repeated};
+ghost use Rattle.slicc_ast.specs.Names.{name, sign as sign_of};
 ghost use Rattle.slicc_ast.specs.declared.tree.token.Sign.TheVariants.{CloseBrace, Colon, Comma, OpenBrace, Semicolon};
 ghost use Rattle.slicc_ast.specs.Form.Form.{enumeration as enumeration_form, states as states_form};
-ghost use Rattle.slicc_ast.specs.Parts.{◌▸◌, braces, of, repeated, sign as sign_part};
-ghost use Rattle.slicc_reading.specs.Reading.{AreRead, IsRead, Refuses};
-ghost use Rattle.slicc_decl.specs.Members.{state_parts, state_row, symbol_row};
+ghost use Rattle.slicc_ast.specs.Parts.{sign as sign_part};
+ghost use Rattle.slicc_reading.specs.Prelude.{AreRead, IsRead, Refuses};
+ghost use Rattle.slicc_decl.specs.Prelude.{state_parts, state_row, symbol_row};
 
+use crate::headed;
 use crate::heads::{ended_by, ended_name, head};
 use slicc_ast::Seq;
 use slicc_ast::tree::{Enumeration, Sign, State, States, Symbol, Word};
 use slicc_lex::Token;
-use slicc_reading::{Fault, added, ended, is_name, is_word, open, refuse, span, word};
+use slicc_reading::{Fault, Read, added, ended, is_name, is_word, open, refuse, span, word};
 use std::alloc::Global;
 
 /// Members of an enumeration and `}`.
-fn symbols(alloc: Global, room: u32, tokens: &[Token]) -> Result<(Seq<Symbol>, &[Token]), Fault>
+fn symbols(alloc: Global, room: u32, tokens: &[Token]) -> Read<Seq<Symbol>>
     ensures { MatchResult result
         (λ read. AreRead room (repeated symbol_row ▸ sign_part CloseBrace) (λ others. symbol_list read.0 (sign_of CloseBrace others)) tokens.now read.1.now)
         (Refuses room (repeated symbol_row ▸ sign_part CloseBrace) tokens.now) }
@@ -36,11 +38,7 @@ fn symbols(alloc: Global, room: u32, tokens: &[Token]) -> Result<(Seq<Symbol>, &
 }
 
 /// Members of an enumeration in braces.
-fn symbol_block(
-    alloc: Global,
-    room: u32,
-    tokens: &[Token],
-) -> Result<(Seq<Symbol>, &[Token]), Fault>
+fn symbol_block(alloc: Global, room: u32, tokens: &[Token]) -> Read<Seq<Symbol>>
     ensures { MatchResult result
         (λ read. AreRead room (braces (repeated symbol_row)) (λ others. sign_of OpenBrace (symbol_list read.0 (sign_of CloseBrace others))) tokens.now read.1.now)
         (Refuses room (braces (repeated symbol_row)) tokens.now) }
@@ -52,47 +50,16 @@ fn symbol_block(
 }
 
 /// An enumeration.
-pub fn enumeration(
-    alloc: Global,
-    room: u32,
-    tokens: &[Token],
-) -> Result<(Enumeration, &[Token]), Fault>
+pub fn enumeration(alloc: Global, room: u32, tokens: &[Token]) -> Read<Enumeration>
     ensures { MatchResult result
-        (λ read. IsRead room (of enumeration_form) (enumeration_of read.0) tokens.now tokens.now read.1.now)
+        (λ read. IsRead room (of enumeration_form) (enumeration read.0) tokens.now tokens.now read.1.now)
         (Refuses room (of enumeration_form) tokens.now) }
 {
-    if !is_word(Word::Enumeration, tokens) {
-        return Err(refuse(room, tokens));
-    }
-    match word(room, Word::Enumeration, tokens) {
-        Ok(inside) => match head(alloc, room, inside) {
-            Ok((name, pairs, behind)) => match symbol_block(alloc, room, behind) {
-                Ok((members, left)) => {
-                    let span = span(tokens, left);
-                    Ok((
-                        Enumeration {
-                            name,
-                            pairs,
-                            members,
-                            span,
-                        },
-                        left,
-                    ))
-                }
-                Err(fault) => {
-                    drop(name);
-                    drop(pairs);
-                    Err(fault)
-                }
-            },
-            Err(fault) => Err(fault),
-        },
-        Err(fault) => Err(fault),
-    }
+    headed! { alloc, room, tokens, Word::Enumeration, symbol_block => Enumeration { members } }
 }
 
 /// A state with its access permission.
-fn state(alloc: Global, room: u32, tokens: &[Token]) -> Result<(State, &[Token]), Fault>
+fn state(alloc: Global, room: u32, tokens: &[Token]) -> Read<State>
     ensures read { MatchResult result
         (λ read. AreRead room state_row (state_parts read.0) tokens.now read.1.now)
         (Refuses room state_row tokens.now) }
@@ -119,11 +86,7 @@ fn state(alloc: Global, room: u32, tokens: &[Token]) -> Result<(State, &[Token])
 }
 
 /// States and `}`.
-fn state_members(
-    alloc: Global,
-    room: u32,
-    tokens: &[Token],
-) -> Result<(Seq<State>, &[Token]), Fault>
+fn state_members(alloc: Global, room: u32, tokens: &[Token]) -> Read<Seq<State>>
     ensures { MatchResult result
         (λ read. AreRead room (repeated state_row ▸ sign_part CloseBrace) (λ others. state_list read.0 (sign_of CloseBrace others)) tokens.now read.1.now)
         (Refuses room (repeated state_row ▸ sign_part CloseBrace) tokens.now) }
@@ -143,7 +106,7 @@ fn state_members(
 }
 
 /// States in braces.
-fn state_block(alloc: Global, room: u32, tokens: &[Token]) -> Result<(Seq<State>, &[Token]), Fault>
+fn state_block(alloc: Global, room: u32, tokens: &[Token]) -> Read<Seq<State>>
     ensures { MatchResult result
         (λ read. AreRead room (braces (repeated state_row)) (λ others. sign_of OpenBrace (state_list read.0 (sign_of CloseBrace others))) tokens.now read.1.now)
         (Refuses room (braces (repeated state_row)) tokens.now) }
@@ -155,37 +118,10 @@ fn state_block(alloc: Global, room: u32, tokens: &[Token]) -> Result<(Seq<State>
 }
 
 /// The states of a machine.
-pub fn states(alloc: Global, room: u32, tokens: &[Token]) -> Result<(States, &[Token]), Fault>
+pub fn states(alloc: Global, room: u32, tokens: &[Token]) -> Read<States>
     ensures { MatchResult result
-        (λ read. IsRead room (of states_form) (states_of read.0) tokens.now tokens.now read.1.now)
+        (λ read. IsRead room (of states_form) (states read.0) tokens.now tokens.now read.1.now)
         (Refuses room (of states_form) tokens.now) }
 {
-    if !is_word(Word::StateDeclaration, tokens) {
-        return Err(refuse(room, tokens));
-    }
-    match word(room, Word::StateDeclaration, tokens) {
-        Ok(inside) => match head(alloc, room, inside) {
-            Ok((name, pairs, behind)) => match state_block(alloc, room, behind) {
-                Ok((members, left)) => {
-                    let span = span(tokens, left);
-                    Ok((
-                        States {
-                            name,
-                            pairs,
-                            members,
-                            span,
-                        },
-                        left,
-                    ))
-                }
-                Err(fault) => {
-                    drop(name);
-                    drop(pairs);
-                    Err(fault)
-                }
-            },
-            Err(fault) => Err(fault),
-        },
-        Err(fault) => Err(fault),
-    }
+    headed! { alloc, room, tokens, Word::StateDeclaration, state_block => States { members } }
 }

@@ -1,23 +1,27 @@
-//! Formals of functions, and the types of declarations with a star where there is one.
-ghost use Rattle.std.specs.Prelude.{◌<◌, length, IfOk, MatchResult};
-ghost use Rattle.slicc_ast.specs.Declarations.{formal as formal_of, formal_list, formals as formals_of, optional_name as name_where};
-ghost use Rattle.slicc_ast.specs.Names.{sign as sign_of, star as star_where, type_name as type_of};
-ghost use Rattle.slicc_ast.specs.Outline.{node, part};
-ghost use Rattle.slicc_ast.specs.declared.tree.token.Sign.TheVariants.{CloseParenthesis, Comma};
-ghost use Rattle.slicc_ast.specs.Form.Form.{formal as formal_form, formals as formals_form};
-ghost use Rattle.slicc_ast.specs.Parts.{◌▸◌, comma, name as name_part, of, optional, parentheses, repeated, sign as sign_part, star, type as type_part};
-ghost use Rattle.slicc_reading.specs.Reading.{AreRead, IsRead, Refuses};
+//! What is separated by commas: the formals of functions, with the types of declarations and a star where there is one, and the
+//! names of a transition's states and events.
+ghost use Rattle.std.specs.Prelude.{◌<◌, length, IfOk, MatchResult, ◌==◌, IsTrue, not};
+ghost use Rattle.slicc_ast.specs.Declarations.{formal, formals};
+ghost use Rattle.slicc_ast.specs.Prelude.{formal_list, optional_name, type_name, node, part, ◌▸◌, comma, of, optional, parentheses, repeated, type, name_list, braces};
+ghost use Rattle.slicc_ast.specs.Names.{sign as sign_of, star as star_where, name as name_of};
+ghost use Rattle.slicc_ast.specs.declared.tree.token.Sign.TheVariants.{CloseParenthesis, Comma, CloseBrace, OpenBrace};
+ghost use Rattle.slicc_ast.specs.Form.Form.{formal as formal_form, formals as formals_form, names as names_form};
+ghost use Rattle.slicc_ast.specs.Parts.{name, sign as sign_part, star};
+ghost use Rattle.slicc_ast.specs.Machines.{names};
+ghost use Rattle.slicc_reading.specs.Prelude.{AreRead, IsRead, Refuses};
 
+use crate::heads::ReadBoth;
 use slicc_ast::Seq;
-use slicc_ast::tree::{Formal, Formals, Name, Sign, TypeName};
+use slicc_ast::tree::{Formal, Formals, Name, Names, Sign, TypeName};
 use slicc_lex::Token;
 use slicc_reading::{
-    Fault, added, ended, is_name, is_sign, name, open, refuse, sign, span, type_name,
+    Fault, Read, added, ended, is_name, is_sign, name, name_after, open, refuse, sign, span,
+    type_name,
 };
 use std::alloc::Global;
 
 /// Whether a star is first, and what is behind it.
-fn optional_star(room: u32, tokens: &[Token]) -> Result<(bool, &[Token]), Fault>
+fn optional_star(room: u32, tokens: &[Token]) -> Read<bool>
     ensures { MatchResult result
         (λ read. AreRead room (optional star) (star_where read.0) tokens.now read.1.now)
         (Refuses room (optional star) tokens.now) }
@@ -32,14 +36,10 @@ fn optional_star(room: u32, tokens: &[Token]) -> Result<(bool, &[Token]), Fault>
 }
 
 /// A type, and a star where there is one.
-pub fn starred_type(
-    alloc: Global,
-    room: u32,
-    tokens: &[Token],
-) -> Result<(TypeName, bool, &[Token]), Fault>
+pub fn starred_type(alloc: Global, room: u32, tokens: &[Token]) -> ReadBoth<TypeName, bool>
     ensures read { MatchResult result
-        (λ read. AreRead room (type_part ▸ optional star) (λ others. type_of read.0 (star_where read.1 others)) tokens.now read.2.now)
-        (Refuses room (type_part ▸ optional star) tokens.now) }
+        (λ read. AreRead room (type ▸ optional star) (λ others. type_name read.0 (star_where read.1 others)) tokens.now read.2.now)
+        (Refuses room (type ▸ optional star) tokens.now) }
     ensures shorter { IfOk result (λ read. length read.2.now < length tokens.now) }
 {
     match type_name(alloc, room, tokens) {
@@ -52,14 +52,10 @@ pub fn starred_type(
 }
 
 /// A name where there is one.
-fn optional_name(
-    alloc: Global,
-    room: u32,
-    tokens: &[Token],
-) -> Result<(Option<Name>, &[Token]), Fault>
+fn optional_name(alloc: Global, room: u32, tokens: &[Token]) -> Read<Option<Name>>
     ensures { MatchResult result
-        (λ read. AreRead room (optional name_part) (name_where read.0) tokens.now read.1.now)
-        (Refuses room (optional name_part) tokens.now) }
+        (λ read. AreRead room (optional name) (optional_name read.0) tokens.now read.1.now)
+        (Refuses room (optional name) tokens.now) }
 {
     if !is_name(tokens) {
         return Ok((None, tokens));
@@ -71,9 +67,9 @@ fn optional_name(
 }
 
 /// A formal: a type, and a star and a name where there are.
-fn formal(alloc: Global, room: u32, tokens: &[Token]) -> Result<(Formal, &[Token]), Fault>
+fn formal(alloc: Global, room: u32, tokens: &[Token]) -> Read<Formal>
     ensures read { MatchResult result
-        (λ read. IsRead room (of formal_form) (formal_of read.0) tokens.now tokens.now read.1.now)
+        (λ read. IsRead room (of formal_form) (formal read.0) tokens.now tokens.now read.1.now)
         (Refuses room (of formal_form) tokens.now) }
     ensures shorter { IfOk result (λ read. length read.1.now < length tokens.now) }
 {
@@ -101,9 +97,9 @@ fn formal(alloc: Global, room: u32, tokens: &[Token]) -> Result<(Formal, &[Token
 }
 
 /// A comma and a formal.
-fn next_formal(alloc: Global, room: u32, tokens: &[Token]) -> Result<(Formal, &[Token]), Fault>
+fn next_formal(alloc: Global, room: u32, tokens: &[Token]) -> Read<Formal>
     ensures read { MatchResult result
-        (λ read. AreRead room (comma ▸ of formal_form) (λ others. sign_of Comma (part (formal_of read.0) others)) tokens.now read.1.now)
+        (λ read. AreRead room (comma ▸ of formal_form) (λ others. sign_of Comma (part (formal read.0) others)) tokens.now read.1.now)
         (Refuses room (comma ▸ of formal_form) tokens.now) }
     ensures shorter { IfOk result (λ read. length read.1.now < length tokens.now) }
 {
@@ -114,7 +110,7 @@ fn next_formal(alloc: Global, room: u32, tokens: &[Token]) -> Result<(Formal, &[
 }
 
 /// Formals, separated by commas.
-fn several_formals(alloc: Global, room: u32, tokens: &[Token]) -> Result<(Formals, &[Token]), Fault>
+fn several_formals(alloc: Global, room: u32, tokens: &[Token]) -> Read<Formals>
     ensures { MatchResult result
         (λ read. IsRead room (of formal_form ▸ repeated (comma ▸ of formal_form)) (node read.0.span (formal_list read.0.items)) tokens.now tokens.now read.1.now)
         (Refuses room (of formal_form ▸ repeated (comma ▸ of formal_form)) tokens.now) }
@@ -141,11 +137,7 @@ fn several_formals(alloc: Global, room: u32, tokens: &[Token]) -> Result<(Formal
 }
 
 /// Formals where there are some.
-fn optional_formals(
-    alloc: Global,
-    room: u32,
-    tokens: &[Token],
-) -> Result<(Formals, &[Token]), Fault>
+fn optional_formals(alloc: Global, room: u32, tokens: &[Token]) -> Read<Formals>
     ensures { MatchResult result
         (λ read. IsRead room (optional (of formals_form)) (node read.0.span (formal_list read.0.items)) tokens.now tokens.now read.1.now)
         (Refuses room (optional (of formals_form)) tokens.now) }
@@ -159,9 +151,9 @@ fn optional_formals(
 }
 
 /// The formals of a function in parentheses.
-pub fn formals(alloc: Global, room: u32, tokens: &[Token]) -> Result<(Formals, &[Token]), Fault>
+pub fn formals(alloc: Global, room: u32, tokens: &[Token]) -> Read<Formals>
     ensures { MatchResult result
-        (λ read. AreRead room (parentheses (optional (of formals_form))) (formals_of read.0) tokens.now read.1.now)
+        (λ read. AreRead room (parentheses (optional (of formals_form))) (formals read.0) tokens.now read.1.now)
         (Refuses room (parentheses (optional (of formals_form))) tokens.now) }
 {
     match open(room, Sign::OpenParenthesis, tokens) {
@@ -170,6 +162,70 @@ pub fn formals(alloc: Global, room: u32, tokens: &[Token]) -> Result<(Formals, &
             optional_formals(alloc, room - 1, inside),
             Sign::CloseParenthesis,
         ),
+        Err(fault) => Err(fault),
+    }
+}
+
+/// Names, separated by commas, and `}`.
+fn closed_names(alloc: Global, room: u32, tokens: &[Token]) -> Read<Seq<Name>>
+    ensures read { MatchResult result
+        (λ read. AreRead room ((name ▸ repeated (comma ▸ name)) ▸ sign_part CloseBrace) (λ others. name_list read.0 (sign_of CloseBrace others)) tokens.now read.1.now)
+        (Refuses room ((name ▸ repeated (comma ▸ name)) ▸ sign_part CloseBrace) tokens.now) }
+    ensures some { IfOk result (λ read. IsTrue (not (length read.0 == 0))) }
+{
+    let mut items = Seq::new(alloc);
+    let mut left = match name(alloc, room, tokens) {
+        Ok((first, behind)) => match items.push(first) {
+            Ok(()) => behind,
+            Err(_) => return Err(Fault::NoMemory),
+        },
+        Err(fault) => return Err(fault),
+    };
+    'commas: while is_sign(Sign::Comma, left) {
+        match added(&mut items, name_after(alloc, room, Sign::Comma, left)) {
+            Ok(after) => left = after,
+            Err(fault) => {
+                drop(items);
+                return Err(fault);
+            }
+        }
+    }
+    ended(room, Ok((items, left)), Sign::CloseBrace)
+}
+
+/// Names in braces.
+fn name_block(alloc: Global, room: u32, tokens: &[Token]) -> Read<Seq<Name>>
+    ensures read { MatchResult result
+        (λ read. AreRead room (braces (name ▸ repeated (comma ▸ name))) (λ others. sign_of OpenBrace (name_list read.0 (sign_of CloseBrace others))) tokens.now read.1.now)
+        (Refuses room (braces (name ▸ repeated (comma ▸ name))) tokens.now) }
+    ensures some { IfOk result (λ read. IsTrue (not (length read.0 == 0))) }
+{
+    match open(room, Sign::OpenBrace, tokens) {
+        Ok(behind) => closed_names(alloc, room - 1, behind),
+        Err(fault) => Err(fault),
+    }
+}
+
+/// One name, or several in braces.
+pub fn names(alloc: Global, room: u32, tokens: &[Token]) -> Read<Names>
+    ensures { MatchResult result
+        (λ read. AreRead room (of names_form) (names read.0) tokens.now read.1.now)
+        (Refuses room (of names_form) tokens.now) }
+{
+    if is_name(tokens) {
+        return match name(alloc, room, tokens) {
+            Ok((one, left)) => Ok((Names::One(one), left)),
+            Err(fault) => Err(fault),
+        };
+    }
+    if !is_sign(Sign::OpenBrace, tokens) {
+        return Err(refuse(room, tokens));
+    }
+    match name_block(alloc, room, tokens) {
+        Ok((several, left)) => {
+            let span = span(tokens, left);
+            Ok((Names::Several(several, span), left))
+        }
         Err(fault) => Err(fault),
     }
 }

@@ -1,28 +1,27 @@
 //! Transitions. Behind the events a name is the next state where no `=` is behind it, and the key of an attribute else, so
 //! what is behind that comma is read before it is known whose comma it was.
 ghost use Rattle.std.specs.Prelude.{◌≡◌, ◌∷◌, ◌<◌, [], true, length, IfOk, MatchResult};
-ghost use Rattle.slicc_ast.specs.Kinds.{is_ahead};
-ghost use Rattle.slicc_ast.specs.Declarations.{pair as pair_of, pair_list, pairs as pairs_of};
-ghost use Rattle.slicc_ast.specs.Machines.{action_list, names as names_of, next_parts, transition as transition_of};
+ghost use Rattle.slicc_ast.specs.Prelude.{is_ahead, pair_list, action_list, next_parts, node, none, transition_end, ◌▸◌, braces, comma, of, optional, parentheses, repeated, string, value, sign_kind};
+ghost use Rattle.slicc_ast.specs.Declarations.{pair, pairs as pairs_of};
+ghost use Rattle.slicc_ast.specs.Machines.{names, transition};
 ghost use Rattle.slicc_ast.specs.Names.{sign as sign_of};
-ghost use Rattle.slicc_ast.specs.Outline.{node, none, token};
+ghost use Rattle.slicc_ast.specs.Outline.{token};
 ghost use Rattle.slicc_ast.specs.declared.tree.token.TokenKind.TheVariants.{Name as Named};
 ghost use Rattle.slicc_ast.specs.declared.tree.token.Sign.TheVariants.{CloseBrace, CloseParenthesis, Comma, Equals, OpenBrace, OpenParenthesis};
-ghost use Rattle.slicc_ast.specs.Form.Form.{names as names_form, transition as transition_form, transition_end as transition_end_form};
-ghost use Rattle.slicc_ast.specs.Parts.{◌▸◌, braces, comma, name as name_part, of, optional, pairs as pairs_part, parentheses, repeated, sign as sign_part, string as string_part, value as value_part};
-ghost use Rattle.slicc_ast.specs.TokenKinds.{sign_kind};
-ghost use Rattle.slicc_lex.specs.Syntax.{symbols};
-ghost use Rattle.slicc_reading.specs.Reading.{AreRead, IsRead, IsSpelledBefore, Refuses};
-ghost use Rattle.slicc_decl.specs.Members.{action_row, pair_parts, transition_inside as inside_part};
+ghost use Rattle.slicc_ast.specs.Form.Form.{names as names_form, transition as transition_form};
+ghost use Rattle.slicc_ast.specs.Parts.{name as name_part, pairs as pairs_part, sign as sign_part};
+ghost use Rattle.slicc_lex.specs.Prelude.{symbols};
+ghost use Rattle.slicc_reading.specs.Prelude.{AreRead, IsRead, IsSpelledBefore, Refuses};
+ghost use Rattle.slicc_decl.specs.Members.{action_row, pair_parts, transition_inside};
 
-use crate::heads::ended_by;
-use crate::name_sets::names;
+use crate::heads::{ReadBoth, ended_by};
+use crate::signatures::names;
 use slicc_ast::Seq;
 use slicc_ast::tree::{Name, Names, Pair, Pairs, Sign, Transition, Word};
 use slicc_lex::Token;
 use slicc_reading::{
-    Fault, added, assigned, ended, is_name, is_sign, is_string, is_word, name, next_pair, open,
-    pairs, refuse, sign, span, string, word,
+    Fault, Read, added, assigned, ended, is_name, is_sign, is_string, is_word, name, next_pair,
+    open, pairs, refuse, sign, span, string, word,
 };
 use std::alloc::Global;
 
@@ -33,7 +32,7 @@ fn further_pairs<'t>(
     first: Pair,
     start: &[Token],
     tokens: &'t [Token],
-) -> Result<(Pairs, &'t [Token]), Fault>
+) -> Read<'t, Pairs>
     requires { IsSpelledBefore (pair_parts first) start.now tokens.now }
     ensures { MatchResult result
         (λ read. IsRead room pairs_part (node read.0.span (pair_list read.0.items)) start.now tokens.now read.1.now)
@@ -58,16 +57,11 @@ fn further_pairs<'t>(
 }
 
 /// Attributes of which the first one is a string, with the comma at `start`.
-fn bare_end<'t>(
-    alloc: Global,
-    room: u32,
-    start: &[Token],
-    tokens: &'t [Token],
-) -> Result<(Pairs, &'t [Token]), Fault>
+fn bare_end<'t>(alloc: Global, room: u32, start: &[Token], tokens: &'t [Token]) -> Read<'t, Pairs>
     requires { AreRead room comma (sign_of Comma) start.now tokens.now }
     ensures { MatchResult result
-        (λ read. IsRead room (string_part ▸ pairs_part) (node read.0.span (pair_list read.0.items)) start.now tokens.now read.1.now)
-        (Refuses room (string_part ▸ pairs_part) tokens.now) }
+        (λ read. IsRead room (string ▸ pairs_part) (node read.0.span (pair_list read.0.items)) start.now tokens.now read.1.now)
+        (Refuses room (string ▸ pairs_part) tokens.now) }
 {
     match string(alloc, room, tokens) {
         Ok((text, behind)) => {
@@ -86,13 +80,13 @@ fn valued_end<'t>(
     tokens: &[Token],
     name: Name,
     behind: &'t [Token],
-) -> Result<(Pairs, &'t [Token]), Fault>
+) -> Read<'t, Pairs>
     requires comma { AreRead room comma (sign_of Comma) start.now tokens.now }
     requires name { IsRead room name_part (node name.span (token (Named name.text) none)) tokens.now tokens.now behind.now }
     requires ahead { is_ahead (sign_kind Equals ∷ []) (symbols behind.now) ≡ true }
     ensures { MatchResult result
-        (λ read. IsRead room (optional (sign_part Equals ▸ value_part) ▸ pairs_part) (node read.0.span (pair_list read.0.items)) start.now behind.now read.1.now)
-        (Refuses room (optional (sign_part Equals ▸ value_part) ▸ pairs_part) behind.now) }
+        (λ read. IsRead room (optional (sign_part Equals ▸ value) ▸ pairs_part) (node read.0.span (pair_list read.0.items)) start.now behind.now read.1.now)
+        (Refuses room (optional (sign_part Equals ▸ value) ▸ pairs_part) behind.now) }
 {
     match assigned(alloc, room, behind) {
         Ok((value, after)) => {
@@ -110,11 +104,11 @@ fn transition_end<'t>(
     room: u32,
     start: &[Token],
     tokens: &'t [Token],
-) -> Result<(Option<Name>, Pairs, &'t [Token]), Fault>
+) -> ReadBoth<'t, Option<Name>, Pairs>
     requires { AreRead room comma (sign_of Comma) start.now tokens.now }
     ensures { MatchResult result
-        (λ read. AreRead room (comma ▸ of transition_end_form) (λ others. next_parts read.0 (pairs_of read.1 others)) start.now read.2.now)
-        (Refuses room (comma ▸ of transition_end_form) start.now) }
+        (λ read. AreRead room (comma ▸ of transition_end) (λ others. next_parts read.0 (pairs_of read.1 others)) start.now read.2.now)
+        (Refuses room (comma ▸ of transition_end) start.now) }
 {
     if is_string(tokens) {
         return match bare_end(alloc, room, start, tokens) {
@@ -146,14 +140,10 @@ fn transition_end<'t>(
 }
 
 /// The next state where there is one, and attributes.
-fn optional_end(
-    alloc: Global,
-    room: u32,
-    tokens: &[Token],
-) -> Result<(Option<Name>, Pairs, &[Token]), Fault>
+fn optional_end(alloc: Global, room: u32, tokens: &[Token]) -> ReadBoth<Option<Name>, Pairs>
     ensures { MatchResult result
-        (λ read. AreRead room (optional (comma ▸ of transition_end_form)) (λ others. next_parts read.0 (pairs_of read.1 others)) tokens.now read.2.now)
-        (Refuses room (optional (comma ▸ of transition_end_form)) tokens.now) }
+        (λ read. AreRead room (optional (comma ▸ of transition_end)) (λ others. next_parts read.0 (pairs_of read.1 others)) tokens.now read.2.now)
+        (Refuses room (optional (comma ▸ of transition_end)) tokens.now) }
 {
     if !is_sign(Sign::Comma, tokens) {
         let items = Seq::new(alloc);
@@ -176,14 +166,10 @@ pub struct TransitionHead {
 }
 
 /// States, events, the next state where there is one, and attributes.
-fn transition_inside(
-    alloc: Global,
-    room: u32,
-    tokens: &[Token],
-) -> Result<(TransitionHead, &[Token]), Fault>
+fn transition_inside(alloc: Global, room: u32, tokens: &[Token]) -> Read<TransitionHead>
     ensures { MatchResult result
-        (λ read. AreRead room inside_part (λ others. names_of read.0.states (sign_of Comma (names_of read.0.events (next_parts read.0.next (pairs_of read.0.pairs others))))) tokens.now read.1.now)
-        (Refuses room inside_part tokens.now) }
+        (λ read. AreRead room transition_inside (λ others. names read.0.states (sign_of Comma (names read.0.events (next_parts read.0.next (pairs_of read.0.pairs others))))) tokens.now read.1.now)
+        (Refuses room transition_inside tokens.now) }
 {
     match ended(room, names(alloc, room, tokens), Sign::Comma) {
         Ok((states, inside)) => match names(alloc, room, inside) {
@@ -213,14 +199,10 @@ fn transition_inside(
 }
 
 /// The same in parentheses.
-fn transition_head(
-    alloc: Global,
-    room: u32,
-    tokens: &[Token],
-) -> Result<(TransitionHead, &[Token]), Fault>
+fn transition_head(alloc: Global, room: u32, tokens: &[Token]) -> Read<TransitionHead>
     ensures { MatchResult result
-        (λ read. AreRead room (parentheses inside_part) (λ others. sign_of OpenParenthesis (names_of read.0.states (sign_of Comma (names_of read.0.events (next_parts read.0.next (pairs_of read.0.pairs (sign_of CloseParenthesis others))))))) tokens.now read.1.now)
-        (Refuses room (parentheses inside_part) tokens.now) }
+        (λ read. AreRead room (parentheses transition_inside) (λ others. sign_of OpenParenthesis (names read.0.states (sign_of Comma (names read.0.events (next_parts read.0.next (pairs_of read.0.pairs (sign_of CloseParenthesis others))))))) tokens.now read.1.now)
+        (Refuses room (parentheses transition_inside) tokens.now) }
 {
     match open(room, Sign::OpenParenthesis, tokens) {
         Ok(inside) => ended(
@@ -233,7 +215,7 @@ fn transition_head(
 }
 
 /// Actions and `}`.
-fn actions(alloc: Global, room: u32, tokens: &[Token]) -> Result<(Seq<Name>, &[Token]), Fault>
+fn actions(alloc: Global, room: u32, tokens: &[Token]) -> Read<Seq<Name>>
     ensures { MatchResult result
         (λ read. AreRead room (repeated action_row ▸ sign_part CloseBrace) (λ others. action_list read.0 (sign_of CloseBrace others)) tokens.now read.1.now)
         (Refuses room (repeated action_row ▸ sign_part CloseBrace) tokens.now) }
@@ -253,7 +235,7 @@ fn actions(alloc: Global, room: u32, tokens: &[Token]) -> Result<(Seq<Name>, &[T
 }
 
 /// Actions in braces.
-fn action_block(alloc: Global, room: u32, tokens: &[Token]) -> Result<(Seq<Name>, &[Token]), Fault>
+fn action_block(alloc: Global, room: u32, tokens: &[Token]) -> Read<Seq<Name>>
     ensures { MatchResult result
         (λ read. AreRead room (braces (repeated action_row)) (λ others. sign_of OpenBrace (action_list read.0 (sign_of CloseBrace others))) tokens.now read.1.now)
         (Refuses room (braces (repeated action_row)) tokens.now) }
@@ -265,13 +247,9 @@ fn action_block(alloc: Global, room: u32, tokens: &[Token]) -> Result<(Seq<Name>
 }
 
 /// A transition.
-pub fn transition(
-    alloc: Global,
-    room: u32,
-    tokens: &[Token],
-) -> Result<(Transition, &[Token]), Fault>
+pub fn transition(alloc: Global, room: u32, tokens: &[Token]) -> Read<Transition>
     ensures { MatchResult result
-        (λ read. IsRead room (of transition_form) (transition_of read.0) tokens.now tokens.now read.1.now)
+        (λ read. IsRead room (of transition_form) (transition read.0) tokens.now tokens.now read.1.now)
         (Refuses room (of transition_form) tokens.now) }
 {
     if !is_word(Word::Transition, tokens) {

@@ -5,21 +5,14 @@ use Rattle.std.proofs.lemmas.Bool.{false≢true}
 use Rattle.slicc_ast.specs.declared.tree.expression.Expr.{Expr}
 use Rattle.slicc_ast.specs.declared.tree.token.Sign.TheVariants.{Colon, Dot, Minus, Not, OpenBracket, OpenParenthesis}
 use Rattle.slicc_ast.specs.declared.tree.token.Word.TheVariants.{True, False, Ood, IsInvalid, IsValid}
-use Rattle.slicc_ast.specs.Expressions.{expr}
-use Rattle.slicc_ast.specs.Outline.{Outline, token}
-use Rattle.slicc_ast.specs.Grammar.Row.{done, token as token_row}
-use Rattle.slicc_ast.specs.Kinds.{has, is_ahead}
-use Rattle.slicc_ast.specs.Reader.{refusal}
-use Rattle.slicc_ast.specs.Ahead.{first_of_constant, first_of_expression, first_of_opening}
-use Rattle.slicc_ast.specs.Form.Form.{constant, unary, product, sum, order, equality, conjunction, expression}
-use Rattle.slicc_ast.specs.Parts.{of, names_of}
-use Rattle.slicc_ast.specs.Table.{table}
-use Rattle.slicc_ast.specs.TokenKinds.{kind_of, number, sign_kind, word_kind}
+use Rattle.slicc_ast.specs.Prelude.{expr, Outline, done, has, is_ahead, refusal, first_of_constant, first_of_expression, first_of_opening, constant, unary, product, sum, order, equality, conjunction, expression, of, names_of, table, kind_of, number, sign_kind, word_kind}
+use Rattle.slicc_ast.specs.Outline.{token}
+use Rattle.slicc_ast.specs.Grammar.Row.{token as token_row}
 use Rattle.slicc_lex.specs.declared.token.Token.{Token}
-use Rattle.slicc_lex.specs.Syntax.{symbols}
+use Rattle.slicc_lex.specs.Prelude.{symbols}
 use Rattle.slicc_reading.specs.declared.fault.Fault.{Fault}
-use Rattle.slicc_expr.specs.Levels.{chains, form_at, IsSimple, simple_kinds}
-use Rattle.slicc_reading.specs.Reading.{AreRead, IsRead, IsStopOf, Refuses}
+use Rattle.slicc_expr.specs.Prelude.{chains, form_at, IsSimple, simple_kinds}
+use Rattle.slicc_reading.specs.Prelude.{AreRead, IsRead, IsStopOf, Refuses}
 use Rattle.slicc_reading.proofs.Parts.{as_node, as_tree, at_first, at_no_alternative, behind_read, by_alternative, in_alternative, of_alternative, read_behind, token_read}
 use Rattle.slicc_reading.proofs.Spans.{token_covers}
 

@@ -13,35 +13,25 @@ use Rattle.slicc_ast.specs.declared.tree.statement.If.{If, If', None', Some', Ro
 use Rattle.slicc_ast.specs.declared.tree.statement.Stmt.{Stmt, Peek, Enqueue, Row_of-Stmt, end_of-Stmt, more_of-Stmt, items-the_row-Stmt}
 use Rattle.slicc_ast.specs.declared.tree.statement.Stmt.TheViews.{the_lemmas}
 use Rattle.slicc_ast.specs.declared.tree.token.TokenKind.{TokenKind}
-use Rattle.slicc_ast.specs.declared.tree.token.TokenKind.TheVariants.{Word as WordOf}
+use Rattle.slicc_ast.specs.declared.tree.token.TokenKind.TheVariants.{Word}
 use Rattle.slicc_ast.specs.declared.tree.token.Sign.TheVariants.{OpenBrace}
-use Rattle.slicc_ast.specs.declared.tree.token.Word.TheVariants.{If as IfWord, Else as ElseWord, Return, Peek as PeekWord, Enqueue as EnqueueWord}
+use Rattle.slicc_ast.specs.declared.tree.token.Word.TheVariants.{If as IfWord, Else, Return, Peek as PeekWord, Enqueue as EnqueueWord}
 use Rattle.slicc_ast.specs.Names.{word as word_of}
-use Rattle.slicc_ast.specs.Outline.{Outline, node, none, Parts, part, token}
-use Rattle.slicc_ast.specs.Statements.{block, else_if_row, if_outline, stmt, stmt_list, stmt_row}
-use Rattle.slicc_ast.specs.Faults.{Stop}
-use Rattle.slicc_ast.specs.Grammar.{Row, Rows}
-use Rattle.slicc_ast.specs.Grammar.Row.{done, form, token as token_row}
-use Rattle.slicc_ast.specs.Grammar.Rows.{next}
-use Rattle.slicc_ast.specs.Kinds.{has, is_ahead}
-use Rattle.slicc_ast.specs.Reader.{Passes, Stops}
-use Rattle.slicc_ast.specs.Reader.Stops.{chosen, on, present, refused, taken}
-use Rattle.slicc_ast.specs.Ahead.{first_of_form, first_of_opening}
-use Rattle.slicc_ast.specs.Form.{Form}
-use Rattle.slicc_ast.specs.Parts.{Part, ◌▸◌, names_of, word}
-use Rattle.slicc_ast.specs.Table.{table}
-use Rattle.slicc_ast.specs.TokenKinds.{kind_of, sign_kind, word_kind}
+use Rattle.slicc_ast.specs.Outline.{token}
+use Rattle.slicc_ast.specs.Prelude.{Outline, node, none, Parts, part, else_if_row, if_outline, stmt, stmt_list, stmt_row, Stop, Row, Rows, done, form, next, has, is_ahead, Passes, Stops, chosen, refused, taken, first_of_form, first_of_opening, Form, ◌▸◌, names_of, table, kind_of, sign_kind, word_kind}
+use Rattle.slicc_ast.specs.Statements.{block}
+use Rattle.slicc_ast.specs.Grammar.Row.{token as token_row}
+use Rattle.slicc_ast.specs.Reader.Stops.{on, present}
+use Rattle.slicc_ast.specs.Parts.{Part, word}
 use Rattle.slicc_lex.specs.declared.token.Token.{Token}
-use Rattle.slicc_lex.specs.Syntax.{symbols}
+use Rattle.slicc_lex.specs.Prelude.{symbols}
 use Rattle.slicc_reading.specs.declared.fault.Fault.{Fault}
-use Rattle.slicc_reading.specs.Reading.{AreParts, AreRead, IsRead, Leads, Refuses}
-use Rattle.slicc_reading.specs.Reading.AreParts.{nothing, one}
-use Rattle.slicc_reading.specs.Reading.Refuses.{no_memory, stops}
+use Rattle.slicc_reading.specs.Prelude.{AreParts, AreRead, IsRead, Leads, Refuses, nothing, one, no_memory, stops}
 use Rattle.slicc_reading.proofs.Choices.{leads_here}
 use Rattle.slicc_reading.proofs.FirstTokens.{later_kind, neither_kind}
 use Rattle.slicc_reading.proofs.Parts.{as_tree}
 use Rattle.slicc_reading.proofs.Repeats.{each}
-use Rattle.slicc_expr.specs.StatementParts.{AreElseIfs, branch, branch_parts, branches_end, calling_words, else_if_parts, else_ifs_parts, enqueue_head_parts, is_else_if, nesting_words, other_branches_parts, peek_head_parts, statement_words}
+use Rattle.slicc_expr.specs.Prelude.{AreElseIfs, branch, branch_parts, branches_end, calling_words, else_if_parts, else_ifs_parts, enqueue_head_parts, is_else_if, nesting_words, other_branches_parts, peek_head_parts, statement_words}
 
 -- statements, one behind another
 abbrev pub stmt_parts : Stmt → Parts → Parts
@@ -88,7 +78,7 @@ record IsElseIf (kinds : List ℕ) : Type 0 where
   kind : ℕ
   others : List ℕ
   split : kinds ≡ kind ∷ others
-  is_else : has (word_kind ElseWord ∷ []) kind ≡ true
+  is_else : has (word_kind Else ∷ []) kind ≡ true
   is_if : is_ahead (word_kind IfWord ∷ []) others ≡ true
 
 both_are : (a b : Bool) → (a && b) ≡ true → (a ≡ true) × (b ≡ true)
@@ -98,7 +88,7 @@ both_are false b is = absurd (false≢true is)
 else_if_tokens : (kinds : List ℕ) → is_else_if kinds ≡ true → IsElseIf kinds
 else_if_tokens [] is = absurd (false≢true is)
 else_if_tokens (kind ∷ others) is =
-    let parts = both_are (has (word_kind ElseWord ∷ []) kind) (is_ahead (word_kind IfWord ∷ []) others) is in
+    let parts = both_are (has (word_kind Else ∷ []) kind) (is_ahead (word_kind IfWord ∷ []) others) is in
     record { kind = kind; others = others; split = refl; is_else = parts.0; is_if = parts.1 }
 
 -- behind a token that must come
@@ -109,16 +99,16 @@ taken_so is (refused ahead) = absurd (false≢true (sym ahead ∙ is))
 
 -- a branch behind `else` is a conditional there
 as_conditional : {room : ℕ} {kinds : List ℕ} {stop : Stop} {row : Row Form} {rows : Rows Form} → IsElseIf kinds
-    → Stops table room (word ElseWord (branch (branches_end done))) (next done (next done (next row rows))) kinds stop
+    → Stops table room (word Else (branch (branches_end done))) (next done (next done (next row rows))) kinds stop
     → Stops table room (branches_end row) rows kinds stop
 as_conditional {room = room} {stop = stop} {row = row} {rows = rows} both s =
-    let inner = taken_so both.is_else (subst (λ ks. Stops table room (word ElseWord (branch (branches_end done))) (next done (next done (next row rows))) ks stop) both.split s) in
+    let inner = taken_so both.is_else (subst (λ ks. Stops table room (word Else (branch (branches_end done))) (next done (next done (next row rows))) ks stop) both.split s) in
     subst (λ ks. Stops table room (branches_end row) rows ks stop) (sym both.split)
     (present both.is_else (taken both.is_else
     (chosen 0 (form Form.conditional done) refl both.is_if (chosen 0 (branch (branches_end done)) refl both.is_if inner))))
 
 one_branch : {room : ℕ} {now after : List Token} → is_else_if (symbols now) ≡ true
-    → Passes table room (word ElseWord ▸ branch) (symbols now) (symbols after) → length after ≤ length now → Leads room branches_end now branches_end after
+    → Passes table room (word Else ▸ branch) (symbols now) (symbols after) → length after ≤ length now → Leads room branches_end now branches_end after
 one_branch {now = now} is passes shorter =
     let both = else_if_tokens (symbols now) is in
     record {
@@ -128,7 +118,7 @@ one_branch {now = now} is passes shorter =
     }
 
 fault_in_branch : {room : ℕ} {now : List Token} {fault : Fault} → is_else_if (symbols now) ≡ true
-    → Refuses room (word ElseWord ▸ branch) now fault → Refuses room branches_end now fault
+    → Refuses room (word Else ▸ branch) now fault → Refuses room branches_end now fault
 fault_in_branch is no_memory = no_memory
 fault_in_branch {now = now} is (stops stop fails is_stop) =
     let both = else_if_tokens (symbols now) is in
@@ -152,7 +142,7 @@ leads_on {tokens = tokens} {now = now} {after = after} a b =
     }
 
 pub one_else_if : {room : ℕ} {tokens now after : List Token} (items : List ElseIf) (last : ElseIf) (more : List ElseIf)
-    → more ≡ items ++ last ∷ [] → is_else_if (symbols now) ≡ true → AreRead room (word ElseWord ▸ branch) (else_if_parts last) now after
+    → more ≡ items ++ last ∷ [] → is_else_if (symbols now) ≡ true → AreRead room (word Else ▸ branch) (else_if_parts last) now after
     → AreElseIfs room tokens items now → AreElseIfs room tokens more after
 one_else_if {room = room} {tokens = tokens} {after = after} items last more is ahead r so_far =
     subst (λ xs. AreElseIfs room tokens xs after) (sym is)
@@ -166,7 +156,7 @@ fault_on l no_memory = no_memory
 fault_on l (stops stop fails is) = stops stop (l.fails stop fails) is
 
 pub fault_in_else_if : {room : ℕ} {tokens now : List Token} {items : List ElseIf} {fault : Fault}
-    → is_else_if (symbols now) ≡ true → Refuses room (word ElseWord ▸ branch) now fault → AreElseIfs room tokens items now → Refuses room branches_end tokens fault
+    → is_else_if (symbols now) ≡ true → Refuses room (word Else ▸ branch) now fault → AreElseIfs room tokens items now → Refuses room branches_end tokens fault
 fault_in_else_if ahead r so_far = fault_on so_far.leads (fault_in_branch ahead r)
 
 pub all_branches : {room : ℕ} {tokens now left : List Token} {items : List ElseIf} {p : Parts → Parts}
@@ -183,14 +173,14 @@ second_not : (a b : Bool) → a ≡ true → (a && b) ≡ false → b ≡ false
 second_not true b first none_of = none_of
 second_not false b first none_of = absurd (false≢true first)
 
-not_if_behind : {kind : TokenKind} {tokens left : List Token} → AreParts (token kind none) tokens left → kind ≡ WordOf ElseWord
+not_if_behind : {kind : TokenKind} {tokens left : List Token} → AreParts (token kind none) tokens left → kind ≡ Word Else
     → is_else_if (symbols tokens) ≡ false → is_ahead (word_kind IfWord ∷ []) (symbols left) ≡ false
 not_if_behind (one {t = t} {left = left} same nothing) is none_of =
-    second_not (has (word_kind ElseWord ∷ []) (kind_of t.kind)) (is_ahead (word_kind IfWord ∷ []) (symbols left))
-    (subst (λ k. has (word_kind ElseWord ∷ []) (kind_of k) ≡ true) (sym (same ∙ is)) refl) none_of
+    second_not (has (word_kind Else ∷ []) (kind_of t.kind)) (is_ahead (word_kind IfWord ∷ []) (symbols left))
+    (subst (λ k. has (word_kind Else ∷ []) (kind_of k) ≡ true) (sym (same ∙ is)) refl) none_of
 
 pub no_if : {room : ℕ} {tokens behind : List Token} → is_else_if (symbols tokens) ≡ false
-    → AreRead room (word ElseWord) (word_of ElseWord) tokens behind → is_ahead (word_kind IfWord ∷ []) (symbols behind) ≡ false
+    → AreRead room (word Else) (word_of Else) tokens behind → is_ahead (word_kind IfWord ∷ []) (symbols behind) ≡ false
 no_if {behind = behind} none_of r = not_if_behind (r.spells none behind nothing) refl none_of
 
 -- what the token ahead is, where it begins a statement

@@ -7,38 +7,25 @@ use Rattle.slicc_ast.specs.declared.tree.expression.Operand.{Operand}
 use Rattle.slicc_ast.specs.declared.tree.expression.Operator.{Operator}
 use Rattle.slicc_ast.specs.declared.tree.expression.Suffix.{Suffix}
 use Rattle.slicc_ast.specs.declared.tree.span.Span.{Span}
-use Rattle.slicc_ast.specs.declared.tree.token.TokenKind.TheVariants.{Sign as SignOf}
+use Rattle.slicc_ast.specs.declared.tree.token.TokenKind.TheVariants.{Sign}
 use Rattle.slicc_ast.specs.declared.tree.token.Sign.TheVariants.{Comma, Dot, OpenBracket, Star, Plus as PlusSign, Minus as MinusSign, Less as LessSign, Greater as GreaterSign, LessOrEqual as LessOrEqualSign, GreaterOrEqual as GreaterOrEqualSign, Equal as EqualSign, Unequal as UnequalSign, And as AndSign, Or as OrSign}
 use Rattle.slicc_ast.specs.declared.tree.expression.Operator.TheVariants.{Or, And, Equal, Unequal, Less, Greater, LessOrEqual, GreaterOrEqual, Plus, Minus, Times}
-use Rattle.slicc_ast.specs.Expressions.{args, expr, mode_parts, suffix, level_of, list_level, operator_level, operator_sign, operand_list, suffix_list, args_list, more_args}
+use Rattle.slicc_ast.specs.Expressions.{suffix}
+use Rattle.slicc_ast.specs.Prelude.{args, expr, mode_parts, level_of, list_level, operator_level, operator_sign, operand_list, suffix_list, args_list, more_args, type_name, node, Parts, none, part, Row, done, form, maybe, Passes, Stops, first_of, first_of_expression, Form, has, is_ahead, arguments, expression, ◌▸◌, of, comma, repeated, table, kind_of, sign_kind}
 use Rattle.slicc_ast.specs.declared.tree.expression.Args.{Args}
 use Rattle.slicc_ast.specs.declared.tree.name.TypeName.{TypeName}
-use Rattle.slicc_ast.specs.Names.{sign, type_name}
-use Rattle.slicc_ast.specs.Outline.{node, Parts, none, part}
-use Rattle.slicc_ast.specs.Grammar.{Row}
-use Rattle.slicc_ast.specs.Grammar.Row.{done, form, maybe, token as token_row}
-use Rattle.slicc_ast.specs.Reader.{Passes, Stops}
+use Rattle.slicc_ast.specs.Names.{sign}
+use Rattle.slicc_ast.specs.Grammar.Row.{token}
 use Rattle.slicc_ast.proofs.Steps.{passes_both, fails_first, fails_second}
-use Rattle.slicc_ast.specs.Grammar.{first_of}
-use Rattle.slicc_ast.specs.Ahead.{first_of_expression}
-use Rattle.slicc_ast.specs.Form.{Form}
-use Rattle.slicc_ast.specs.Kinds.{has, is_ahead}
-use Rattle.slicc_ast.specs.Form.Form.{arguments, expression}
-use Rattle.slicc_ast.specs.Parts.{Part, ◌▸◌, of, comma, repeated}
-use Rattle.slicc_ast.specs.Table.{table}
-use Rattle.slicc_ast.specs.TokenKinds.{kind_of, sign_kind}
+use Rattle.slicc_ast.specs.Parts.{Part}
 use Rattle.slicc_lex.specs.declared.token.Token.{Token}
-use Rattle.slicc_lex.specs.Syntax.{symbols}
+use Rattle.slicc_lex.specs.Prelude.{symbols}
 use Rattle.slicc_reading.specs.declared.fault.Fault.{Fault}
-use Rattle.slicc_expr.specs.Levels.{chain, chains, form_at, kinds_at, IsOperator}
-use Rattle.slicc_reading.specs.Reading.{Covers, IsNode, AreParts, IsRead, AreRead, Leads, Refuses}
-use Rattle.slicc_reading.specs.Reading.IsNode.{spelled}
-use Rattle.slicc_reading.specs.Reading.AreParts.{nothing, inside, allowed}
+use Rattle.slicc_expr.specs.Prelude.{chain, chains, form_at, kinds_at, IsOperator, is_some, operand_parts, operands_before, operation_node, postfix_node, suffixes_before}
+use Rattle.slicc_reading.specs.Prelude.{Covers, IsNode, AreParts, IsRead, AreRead, Leads, Refuses, spelled, nothing, inside, allowed, no_memory, stops}
 use Rattle.slicc_reading.proofs.Parts.{◌then◌, allow, as_node, as_part, behind, of_alternative, token_read}
 use Rattle.slicc_expr.proofs.Ahead.{eq_true, is_true, le_true, lt_true}
-use Rattle.slicc_expr.specs.Nodes.{is_some, operand_parts, operands_before, operation_node, postfix_node, suffixes_before}
 use Rattle.slicc_reading.proofs.Repeats.{AreRepeated, all_read, each, fault_in_one, none_yet, one_more}
-use Rattle.slicc_reading.specs.Reading.Refuses.{no_memory, stops}
 use Rattle.slicc_reading.proofs.Choices.{absent, leads_here, leads_behind, once_more, no_more, all_of, present_read}
 
 -- arguments, and then further parts
@@ -61,7 +48,7 @@ abbrev pub head_parts : TypeName × Option (List ℕ) → Parts → Parts
 head_parts head others = type_name head.0 (sign Comma (mode_parts head.1 others))
 
 abbrev pub operand : ℕ → Part
-operand at = token_row (kinds_at at) ▸ form (form_at at)
+operand at = token (kinds_at at) ▸ form (form_at at)
 
 abbrev pub more_items : Part
 more_items = comma ▸ of expression
@@ -217,15 +204,15 @@ operator_kind Unequal at is = let e : 3 ≡ at = omega arith in subst (λ n. has
 operator_kind And at is = let e : 4 ≡ at = omega arith in subst (λ n. has (kinds_at n) (sign_kind AndSign) ≡ true) e refl
 operator_kind Or at is = let e : 5 ≡ at = omega arith in subst (λ n. has (kinds_at n) (sign_kind OrSign) ≡ true) e refl
 
-operator_has : (op : Operator) (at : ℕ) (t : Token) → operator_level op + at ≡ 6 → t.kind ≡ SignOf (operator_sign op) → has (kinds_at at) (kind_of t.kind) ≡ true
+operator_has : (op : Operator) (at : ℕ) (t : Token) → operator_level op + at ≡ 6 → t.kind ≡ Sign (operator_sign op) → has (kinds_at at) (kind_of t.kind) ≡ true
 operator_has op at t level is = subst (λ k. has (kinds_at at) (kind_of k) ≡ true) (sym is) (operator_kind op at level)
 
 pub operator_ahead : (op : Operator) (at : ℕ) (tokens left : List Token) → IsOperator at op tokens left → is_ahead (kinds_at at) (symbols tokens) ≡ true
 operator_ahead op at tokens left o = subst (λ ts. is_ahead (kinds_at at) (symbols ts) ≡ true) (sym o.split) (operator_has op at o.first o.level o.is_sign)
 
-operator_read : (room : ℕ) (op : Operator) (at : ℕ) (tokens left : List Token) → IsOperator at op tokens left → AreRead room (token_row (kinds_at at)) (sign (operator_sign op)) tokens left
+operator_read : (room : ℕ) (op : Operator) (at : ℕ) (tokens left : List Token) → IsOperator at op tokens left → AreRead room (token (kinds_at at)) (sign (operator_sign op)) tokens left
 operator_read room op at tokens left o =
-    token_read room (kinds_at at) (SignOf (operator_sign op)) o.first tokens left o.split (operator_has op at o.first o.level o.is_sign) o.is_sign
+    token_read room (kinds_at at) (Sign (operator_sign op)) o.first tokens left o.split (operator_has op at o.first o.level o.is_sign) o.is_sign
 
 -- operands of one level
 pub no_operand : {room : ℕ} {start tokens : List Token} (height : ℕ) (first : Expr)

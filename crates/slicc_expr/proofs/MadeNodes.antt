@@ -10,11 +10,10 @@ use Rattle.slicc_ast.specs.declared.tree.expression.Expr.TheViews.{the_lemmas}
 use Rattle.slicc_ast.specs.declared.tree.token.Sign.TheVariants.{CloseParenthesis, Comma, Minus, Not, OpenParenthesis}
 use Rattle.slicc_ast.specs.declared.tree.token.Word.TheVariants.{IsInvalid, IsValid, StaticCast}
 use Rattle.slicc_ast.proofs.Boxes.{Cast_is, Group_is, IsInvalid_is, IsValid_is, Negate_is, Not_is, Operation_is, Postfix_is}
-use Rattle.slicc_ast.specs.Expressions.{expr, level_of, list_level, mode_parts}
-use Rattle.slicc_ast.specs.Names.{sign, type_name, word}
-use Rattle.slicc_ast.specs.Outline.{node, none, part, provided}
+use Rattle.slicc_ast.specs.Prelude.{expr, level_of, list_level, mode_parts, type_name, node, none, part, provided}
+use Rattle.slicc_ast.specs.Names.{sign, word}
 use Rattle.slicc_ast.proofs.RowsOfExpressions.{level_of_row, operands_of_row, suffixes_of_row}
-use Rattle.slicc_expr.specs.Nodes.{operation_node, postfix_node}
+use Rattle.slicc_expr.specs.Prelude.{operation_node, postfix_node}
 use Rattle.slicc_expr.proofs.Rows.{some_of_row}
 
 pub expr_of_Not : (e : Expr) (span : Span)

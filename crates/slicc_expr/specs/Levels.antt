@@ -8,14 +8,10 @@ use Rattle.slicc_ast.specs.declared.tree.token.TokenKind.{TokenKind}
 use Rattle.slicc_ast.specs.declared.tree.token.Word.TheVariants.{True, False, Ood, New, IsValid, IsInvalid, StaticCast}
 use Rattle.slicc_ast.specs.declared.tree.span.Span.{Span}
 use Rattle.slicc_ast.specs.declared.tree.expression.Expr.{Expr}
-use Rattle.slicc_ast.specs.Expressions.{expr, level_of, operator_level, operator_sign}
-use Rattle.slicc_ast.specs.Outline.{node, none, token}
-use Rattle.slicc_ast.specs.Grammar.Row.{done, form, many, nested, token as token_row}
-use Rattle.slicc_ast.specs.Kinds.{has}
-use Rattle.slicc_ast.specs.Form.{Form}
-use Rattle.slicc_ast.specs.Form.Form.{unary, product, sum, order, equality, conjunction, expression}
-use Rattle.slicc_ast.specs.Parts.{Part, ◌▸◌, of, optional, comma, sign, string, type, word}
-use Rattle.slicc_ast.specs.TokenKinds.{kind_of, number, sign_kind, word_kind}
+use Rattle.slicc_ast.specs.Prelude.{expr, level_of, operator_level, operator_sign, node, none, done, form, many, nested, has, Form, unary, product, sum, order, equality, conjunction, expression, ◌▸◌, of, optional, comma, string, type, kind_of, number, sign_kind, word_kind}
+use Rattle.slicc_ast.specs.Outline.{token}
+use Rattle.slicc_ast.specs.Grammar.Row.{token as token_row}
+use Rattle.slicc_ast.specs.Parts.{Part, sign, word}
 use Rattle.slicc_lex.specs.declared.token.Token.{Token}
 
 -- the form with operators of the levels below this height

@@ -4,9 +4,9 @@ use Rattle.slicc_ast.specs.declared.tree.span.Span.{Span}
 use Rattle.slicc_ast.specs.declared.tree.expression.Expr.{Expr}
 use Rattle.slicc_ast.specs.declared.tree.expression.Operand.{Operand}
 use Rattle.slicc_ast.specs.declared.tree.expression.Suffix.{Suffix}
-use Rattle.slicc_ast.specs.Outline.{Outline, node, Parts, part, provided}
+use Rattle.slicc_ast.specs.Prelude.{Outline, node, Parts, part, provided, expr, level_of, list_level, operand_list, operator_level, operator_sign, suffix_list}
 use Rattle.slicc_ast.specs.Names.{sign}
-use Rattle.slicc_ast.specs.Expressions.{expr, level_of, list_level, operand_list, operator_level, operator_sign, suffix, suffix_list}
+use Rattle.slicc_ast.specs.Expressions.{suffix}
 
 -- an operator of the level and its operand, and then the parts
 abbrev pub operand_parts : ℕ → Operand → Parts → Parts

@@ -1,42 +1,36 @@
 //! Blocks, and the statements that hold them. A block is read with one more nesting open, so that the cycle of functions goes
 //! no deeper than the nesting may. The statements of a block and the branches behind `else if` are loops.
 ghost use Rattle.std.specs.Prelude.{◌≡◌, ◌∷◌, ◌<◌, [], false, true, length, IfOk, MatchResult};
-ghost use Rattle.slicc_ast.specs.Kinds.{is_ahead};
-ghost use Rattle.slicc_ast.specs.Statements.{block_outline, if_outline, stmt};
+ghost use Rattle.slicc_ast.specs.Prelude.{is_ahead, block_outline, if_outline, stmt, first_of_form, conditional, otherwise, statement as statement_form, ◌▸◌, of, word_kind};
 ghost use Rattle.slicc_ast.specs.declared.tree.token.Word.TheVariants.{Else, If as IfWord};
-ghost use Rattle.slicc_ast.specs.Ahead.{first_of_form};
-ghost use Rattle.slicc_ast.specs.Form.Form.{block as block_form, conditional as conditional_form, otherwise as otherwise_form, statement as statement_form};
-ghost use Rattle.slicc_ast.specs.Parts.{◌▸◌, of, word as word_part};
-ghost use Rattle.slicc_ast.specs.TokenKinds.{word_kind};
-ghost use Rattle.slicc_lex.specs.Syntax.{symbols};
-ghost use Rattle.slicc_reading.specs.Reading.{AreRead, IsRead, Refuses};
-ghost use Rattle.slicc_expr.specs.StatementParts.{AreElseIfs, branch as branch_form, branch_parts, branches_end, else_if_parts, enqueue_statement, is_else_if, nesting_words, other_branches_parts, last_parts, peek_statement, statements_end, statements_parts};
+ghost use Rattle.slicc_ast.specs.Form.Form.{block};
+ghost use Rattle.slicc_ast.specs.Parts.{word};
+ghost use Rattle.slicc_lex.specs.Prelude.{symbols};
+ghost use Rattle.slicc_reading.specs.Prelude.{AreRead, IsRead, Refuses};
+ghost use Rattle.slicc_expr.specs.Prelude.{AreElseIfs, branch, branch_parts, branches_end, else_if_parts, enqueue_statement, is_else_if, nesting_words, other_branches_parts, last_parts, peek_statement, statements_end, statements_parts};
 
 use crate::called_statements::called_statement;
 use crate::expressions::tested;
 use crate::plain_statements::{name_statement, opening_statement, return_statement};
-use crate::port_heads::{enqueue_head, peek_head};
-use crate::statement_ahead::{begins_else_if, begins_nesting, begins_statement};
+use crate::statement_values::{
+    begins_else_if, begins_nesting, begins_statement, enqueue_head, peek_head,
+};
 use crate::values::begins_opening;
 use slicc_ast::Seq;
 use slicc_ast::tree::{Block, ElseIf, Expr, If, Sign, Stmt, Word};
 use slicc_lex::Token;
 use slicc_reading::{
-    Fault, added, ended, is_name, is_sign, is_word, joined, open, refuse, span, word,
+    Fault, Read, added, ended, is_name, is_sign, is_word, joined, open, refuse, span, word,
 };
 use std::alloc::Global;
 
 /// Statements in braces.
 #[cycle(block)]
-pub fn statement_block(
-    alloc: Global,
-    room: u32,
-    tokens: &[Token],
-) -> Result<(Block, &[Token]), Fault>
+pub fn statement_block(alloc: Global, room: u32, tokens: &[Token]) -> Read<Block>
     ensures read { MatchResult result
-        (λ read. IsRead room (of block_form)
+        (λ read. IsRead room (of block)
         (block_outline read.0) tokens.now tokens.now read.1.now)
-        (Refuses room (of block_form) tokens.now) }
+        (Refuses room (of block) tokens.now) }
     ensures shorter { IfOk result (λ read. length read.1.now < length tokens.now) }
 {
     if !is_sign(Sign::OpenBrace, tokens) {
@@ -56,7 +50,7 @@ pub fn statement_block(
 
 /// Statements and `}`.
 #[cycle(block)]
-fn statements(alloc: Global, room: u32, tokens: &[Token]) -> Result<(Seq<Stmt>, &[Token]), Fault>
+fn statements(alloc: Global, room: u32, tokens: &[Token]) -> Read<Seq<Stmt>>
     ensures { MatchResult result
         (λ read. AreRead room statements_end
         (statements_parts read.0) tokens.now read.1.now)
@@ -77,7 +71,7 @@ fn statements(alloc: Global, room: u32, tokens: &[Token]) -> Result<(Seq<Stmt>, 
 }
 
 #[cycle(block)]
-fn statement(alloc: Global, room: u32, tokens: &[Token]) -> Result<(Stmt, &[Token]), Fault>
+fn statement(alloc: Global, room: u32, tokens: &[Token]) -> Read<Stmt>
     requires { is_ahead (first_of_form statement_form) (symbols tokens.now) ≡ true }
     ensures read { MatchResult result
         (λ read. IsRead room (of statement_form) (stmt read.0) tokens.now tokens.now read.1.now)
@@ -101,7 +95,7 @@ fn statement(alloc: Global, room: u32, tokens: &[Token]) -> Result<(Stmt, &[Toke
 
 /// A statement that holds a block.
 #[cycle(block)]
-fn nesting_statement(alloc: Global, room: u32, tokens: &[Token]) -> Result<(Stmt, &[Token]), Fault>
+fn nesting_statement(alloc: Global, room: u32, tokens: &[Token]) -> Read<Stmt>
     requires { is_ahead nesting_words (symbols tokens.now) ≡ true }
     ensures read { MatchResult result
         (λ read. IsRead room (of statement_form) (stmt read.0) tokens.now tokens.now read.1.now)
@@ -121,7 +115,7 @@ fn nesting_statement(alloc: Global, room: u32, tokens: &[Token]) -> Result<(Stmt
 }
 
 #[cycle(block)]
-fn peek(alloc: Global, room: u32, tokens: &[Token]) -> Result<(Stmt, &[Token]), Fault>
+fn peek(alloc: Global, room: u32, tokens: &[Token]) -> Read<Stmt>
     ensures read { MatchResult result
         (λ read. IsRead room peek_statement (stmt read.0) tokens.now tokens.now read.1.now)
         (Refuses room peek_statement tokens.now) }
@@ -152,7 +146,7 @@ fn peek(alloc: Global, room: u32, tokens: &[Token]) -> Result<(Stmt, &[Token]), 
 }
 
 #[cycle(block)]
-fn enqueue(alloc: Global, room: u32, tokens: &[Token]) -> Result<(Stmt, &[Token]), Fault>
+fn enqueue(alloc: Global, room: u32, tokens: &[Token]) -> Read<Stmt>
     ensures read { MatchResult result
         (λ read. IsRead room enqueue_statement (stmt read.0) tokens.now tokens.now read.1.now)
         (Refuses room enqueue_statement tokens.now) }
@@ -184,12 +178,12 @@ fn enqueue(alloc: Global, room: u32, tokens: &[Token]) -> Result<(Stmt, &[Token]
 
 /// `if`, its branches, and those behind `else`.
 #[cycle(block)]
-fn conditional(alloc: Global, room: u32, tokens: &[Token]) -> Result<(If, &[Token]), Fault>
+fn conditional(alloc: Global, room: u32, tokens: &[Token]) -> Read<If>
     requires { is_ahead (word_kind IfWord ∷ []) (symbols tokens.now) ≡ true }
     ensures read { MatchResult result
-        (λ read. IsRead room (of conditional_form)
+        (λ read. IsRead room (of conditional)
         (if_outline read.0) tokens.now tokens.now read.1.now)
-        (Refuses room (of conditional_form) tokens.now) }
+        (Refuses room (of conditional) tokens.now) }
     ensures shorter { IfOk result (λ read. length read.1.now < length tokens.now) }
 {
     match if_branch(alloc, room, tokens) {
@@ -218,10 +212,10 @@ fn conditional(alloc: Global, room: u32, tokens: &[Token]) -> Result<(If, &[Toke
 
 /// `if`, a condition and a block.
 #[cycle(block)]
-fn if_branch(alloc: Global, room: u32, tokens: &[Token]) -> Result<((Expr, Block), &[Token]), Fault>
+fn if_branch(alloc: Global, room: u32, tokens: &[Token]) -> Read<(Expr, Block)>
     ensures read { MatchResult result
-        (λ read. AreRead room branch_form (branch_parts read.0) tokens.now read.1.now)
-        (Refuses room branch_form tokens.now) }
+        (λ read. AreRead room branch (branch_parts read.0) tokens.now read.1.now)
+        (Refuses room branch tokens.now) }
     ensures shorter { IfOk result (λ read. length read.1.now < length tokens.now) }
 {
     match tested(alloc, room, Word::If, tokens) {
@@ -232,11 +226,7 @@ fn if_branch(alloc: Global, room: u32, tokens: &[Token]) -> Result<((Expr, Block
 
 /// The branches behind the first one, and the block of the last `else`.
 #[cycle(block)]
-fn other_branches(
-    alloc: Global,
-    room: u32,
-    tokens: &[Token],
-) -> Result<((Seq<ElseIf>, Option<Block>), &[Token]), Fault>
+fn other_branches(alloc: Global, room: u32, tokens: &[Token]) -> Read<(Seq<ElseIf>, Option<Block>)>
     ensures { MatchResult result
         (λ read. AreRead room branches_end
         (other_branches_parts read.0) tokens.now read.1.now)
@@ -256,7 +246,7 @@ fn other_branches(
 
 /// Any number of branches behind `else if`.
 #[cycle(block)]
-fn else_ifs(alloc: Global, room: u32, tokens: &[Token]) -> Result<(Seq<ElseIf>, &[Token]), Fault>
+fn else_ifs(alloc: Global, room: u32, tokens: &[Token]) -> Read<Seq<ElseIf>>
     ensures read { MatchResult result
         (λ read. AreElseIfs room tokens.now read.0 read.1.now)
         (Refuses room branches_end tokens.now) }
@@ -278,11 +268,11 @@ fn else_ifs(alloc: Global, room: u32, tokens: &[Token]) -> Result<(Seq<ElseIf>, 
 
 /// `else if`, a condition and a block.
 #[cycle(block)]
-fn else_if(alloc: Global, room: u32, tokens: &[Token]) -> Result<(ElseIf, &[Token]), Fault>
+fn else_if(alloc: Global, room: u32, tokens: &[Token]) -> Read<ElseIf>
     ensures read { MatchResult result
-        (λ read. AreRead room (word_part Else ▸ branch_form)
+        (λ read. AreRead room (word Else ▸ branch)
         (else_if_parts read.0) tokens.now read.1.now)
-        (Refuses room (word_part Else ▸ branch_form) tokens.now) }
+        (Refuses room (word Else ▸ branch) tokens.now) }
     ensures shorter { IfOk result (λ read. length read.1.now < length tokens.now) }
 {
     match word(room, Word::Else, tokens) {
@@ -299,11 +289,7 @@ fn else_if(alloc: Global, room: u32, tokens: &[Token]) -> Result<(ElseIf, &[Toke
 
 /// `else` and a block where there is an `else`.
 #[cycle(block)]
-fn last_branch(
-    alloc: Global,
-    room: u32,
-    tokens: &[Token],
-) -> Result<(Option<Block>, &[Token]), Fault>
+fn last_branch(alloc: Global, room: u32, tokens: &[Token]) -> Read<Option<Block>>
     requires { is_else_if (symbols tokens.now) ≡ false }
     ensures { MatchResult result
         (λ read. AreRead room branches_end (last_parts read.0) tokens.now read.1.now)
@@ -323,12 +309,12 @@ fn last_branch(
 
 /// What is behind an `else` without an `if`.
 #[cycle(block)]
-fn last_block(alloc: Global, room: u32, tokens: &[Token]) -> Result<(Block, &[Token]), Fault>
+fn last_block(alloc: Global, room: u32, tokens: &[Token]) -> Read<Block>
     requires { is_ahead (word_kind IfWord ∷ []) (symbols tokens.now) ≡ false }
     ensures read { MatchResult result
-        (λ read. IsRead room (of otherwise_form)
+        (λ read. IsRead room (of otherwise)
         (block_outline read.0) tokens.now tokens.now read.1.now)
-        (Refuses room (of otherwise_form) tokens.now) }
+        (Refuses room (of otherwise) tokens.now) }
     ensures shorter { IfOk result (λ read. length read.1.now < length tokens.now) }
 {
     if !is_sign(Sign::OpenBrace, tokens) {

@@ -1,28 +1,24 @@
 //! Statements of a word with something in parentheses and `;`.
 ghost use Rattle.std.specs.Prelude.{◌≡◌, ◌<◌, true, false, length, IfOk, MatchOption, MatchResult};
-ghost use Rattle.slicc_ast.specs.Kinds.{has, is_ahead};
-ghost use Rattle.slicc_ast.specs.Names.{word as word_of};
-ghost use Rattle.slicc_ast.specs.Statements.{print_word as print_word_of, stmt};
-ghost use Rattle.slicc_ast.specs.Form.Form.{statement as statement_form};
-ghost use Rattle.slicc_ast.specs.Parts.{of};
-ghost use Rattle.slicc_ast.specs.TokenKinds.{kind_of, word_kind};
-ghost use Rattle.slicc_lex.specs.Syntax.{symbols};
-ghost use Rattle.slicc_reading.specs.Reading.{AreRead, IsRead, Refuses};
-ghost use Rattle.slicc_expr.specs.StatementParts.{IsPrintWord, assert as assert_form, calling_words, check_allocate as check_form, error as error_form, print_kinds, print_statement as print_form, print_word as print_word_form, stall_and_wait as stall_form};
+ghost use Rattle.slicc_ast.specs.Prelude.{has, is_ahead, print_word as print_word_of, stmt, statement as statement_form, of, kind_of, word_kind};
+ghost use Rattle.slicc_ast.specs.Names.{word};
+ghost use Rattle.slicc_lex.specs.Prelude.{symbols};
+ghost use Rattle.slicc_reading.specs.Prelude.{AreRead, IsRead, Refuses};
+ghost use Rattle.slicc_expr.specs.Prelude.{IsPrintWord, assert, calling_words, check_allocate, error, print_kinds, print_statement, print_word as print_word_form, stall_and_wait};
 
 use crate::expressions::expression;
 use crate::statement_values::named_value;
 use slicc_ast::tree::{PrintWord, Sign, Stmt, TokenKind, Word};
 use slicc_lex::Token;
 use slicc_reading::{
-    Fault, bracketed, called, ended, ended_call, is_word, name, refuse, span, split_first, string,
+    Read, bracketed, called, ended, ended_call, is_word, name, refuse, span, split_first, string,
 };
 use std::alloc::Global;
 
-fn stall_and_wait(alloc: Global, room: u32, tokens: &[Token]) -> Result<(Stmt, &[Token]), Fault>
+fn stall_and_wait(alloc: Global, room: u32, tokens: &[Token]) -> Read<Stmt>
     ensures read { MatchResult result
-        (λ read. IsRead room stall_form (stmt read.0) tokens.now tokens.now read.1.now)
-        (Refuses room stall_form tokens.now) }
+        (λ read. IsRead room stall_and_wait (stmt read.0) tokens.now tokens.now read.1.now)
+        (Refuses room stall_and_wait tokens.now) }
     ensures shorter { IfOk result (λ read. length read.1.now < length tokens.now) }
 {
     match called(room, Word::StallAndWait, tokens) {
@@ -45,10 +41,10 @@ fn stall_and_wait(alloc: Global, room: u32, tokens: &[Token]) -> Result<(Stmt, &
     }
 }
 
-fn check_allocate(alloc: Global, room: u32, tokens: &[Token]) -> Result<(Stmt, &[Token]), Fault>
+fn check_allocate(alloc: Global, room: u32, tokens: &[Token]) -> Read<Stmt>
     ensures read { MatchResult result
-        (λ read. IsRead room check_form (stmt read.0) tokens.now tokens.now read.1.now)
-        (Refuses room check_form tokens.now) }
+        (λ read. IsRead room check_allocate (stmt read.0) tokens.now tokens.now read.1.now)
+        (Refuses room check_allocate tokens.now) }
     ensures shorter { IfOk result (λ read. length read.1.now < length tokens.now) }
 {
     match called(room, Word::CheckAllocate, tokens) {
@@ -60,10 +56,10 @@ fn check_allocate(alloc: Global, room: u32, tokens: &[Token]) -> Result<(Stmt, &
     }
 }
 
-fn error(alloc: Global, room: u32, tokens: &[Token]) -> Result<(Stmt, &[Token]), Fault>
+fn error(alloc: Global, room: u32, tokens: &[Token]) -> Read<Stmt>
     ensures read { MatchResult result
-        (λ read. IsRead room error_form (stmt read.0) tokens.now tokens.now read.1.now)
-        (Refuses room error_form tokens.now) }
+        (λ read. IsRead room error (stmt read.0) tokens.now tokens.now read.1.now)
+        (Refuses room error tokens.now) }
     ensures shorter { IfOk result (λ read. length read.1.now < length tokens.now) }
 {
     match called(room, Word::Error, tokens) {
@@ -75,10 +71,10 @@ fn error(alloc: Global, room: u32, tokens: &[Token]) -> Result<(Stmt, &[Token]),
     }
 }
 
-fn assert(alloc: Global, room: u32, tokens: &[Token]) -> Result<(Stmt, &[Token]), Fault>
+fn assert(alloc: Global, room: u32, tokens: &[Token]) -> Read<Stmt>
     ensures read { MatchResult result
-        (λ read. IsRead room assert_form (stmt read.0) tokens.now tokens.now read.1.now)
-        (Refuses room assert_form tokens.now) }
+        (λ read. IsRead room assert (stmt read.0) tokens.now tokens.now read.1.now)
+        (Refuses room assert tokens.now) }
     ensures shorter { IfOk result (λ read. length read.1.now < length tokens.now) }
 {
     match called(room, Word::Assert, tokens) {
@@ -114,10 +110,10 @@ fn print_word_kind(kind: &TokenKind) -> Option<PrintWord>
 }
 
 /// The word of a text for a trace.
-fn print_word(room: u32, tokens: &[Token]) -> Result<(PrintWord, &[Token]), Fault>
+fn print_word(room: u32, tokens: &[Token]) -> Read<PrintWord>
     ensures read { MatchResult result
         (λ read. AreRead room print_word_form
-        (word_of (print_word_of read.0)) tokens.now read.1.now)
+        (word (print_word_of read.0)) tokens.now read.1.now)
         (Refuses room print_word_form tokens.now) }
     ensures shorter { IfOk result (λ read. length read.1.now < length tokens.now) }
 {
@@ -131,10 +127,10 @@ fn print_word(room: u32, tokens: &[Token]) -> Result<(PrintWord, &[Token]), Faul
 }
 
 /// A text for a trace.
-fn print_statement(alloc: Global, room: u32, tokens: &[Token]) -> Result<(Stmt, &[Token]), Fault>
+fn print_statement(alloc: Global, room: u32, tokens: &[Token]) -> Read<Stmt>
     ensures read { MatchResult result
-        (λ read. IsRead room print_form (stmt read.0) tokens.now tokens.now read.1.now)
-        (Refuses room print_form tokens.now) }
+        (λ read. IsRead room print_statement (stmt read.0) tokens.now tokens.now read.1.now)
+        (Refuses room print_statement tokens.now) }
     ensures shorter { IfOk result (λ read. length read.1.now < length tokens.now) }
 {
     match print_word(room, tokens) {
@@ -167,11 +163,7 @@ fn print_statement(alloc: Global, room: u32, tokens: &[Token]) -> Result<(Stmt, 
 }
 
 /// A statement of a word with something in parentheses and `;`.
-pub fn called_statement(
-    alloc: Global,
-    room: u32,
-    tokens: &[Token],
-) -> Result<(Stmt, &[Token]), Fault>
+pub fn called_statement(alloc: Global, room: u32, tokens: &[Token]) -> Read<Stmt>
     requires { is_ahead calling_words (symbols tokens.now) ≡ true }
     ensures read { MatchResult result
         (λ read. IsRead room (of statement_form) (stmt read.0) tokens.now tokens.now read.1.now)

@@ -2,32 +2,28 @@
 //! is read with one more nesting open, so that the cycle goes no deeper than the nesting may. Operands of one level, suffixes and
 //! arguments are read by loops.
 ghost use Rattle.std.specs.Prelude.{◌≡◌, ◌+◌, ◌-◌, ◌∷◌, ◌<◌, ◌≤◌, [], true, length, IfOk, MatchResult};
-ghost use Rattle.slicc_ast.specs.Kinds.{is_ahead};
-ghost use Rattle.slicc_ast.specs.Expressions.{args as args_of, expr, level_of, list_level, mode_parts, suffix as suffix_of};
-ghost use Rattle.slicc_ast.specs.Names.{name as name_of, sign as sign_of, type_name, word as word_of};
-ghost use Rattle.slicc_ast.specs.Outline.{node, none, part, token};
-ghost use Rattle.slicc_ast.specs.declared.tree.token.Sign.TheVariants.{CloseParenthesis, Comma, Dot, Minus as MinusSign, Not as NotSign, OpenBracket, OpenParenthesis};
+ghost use Rattle.slicc_ast.specs.Prelude.{is_ahead, args, expr, level_of, list_level, mode_parts, type_name, node, none, part, first_of_constant, first_of_expression, first_of_opening, arguments, constant, expression, name_end, opening, unary, ◌▸◌, colon, comma, of, optional, parentheses, prefixed, repeated, sign_kind, word_kind};
+ghost use Rattle.slicc_ast.specs.Expressions.{suffix};
+ghost use Rattle.slicc_ast.specs.Names.{name as name_of, sign as sign_of, word as word_of};
+ghost use Rattle.slicc_ast.specs.Outline.{token};
+ghost use Rattle.slicc_ast.specs.declared.tree.token.Sign.TheVariants.{CloseParenthesis, Comma, Dot, Minus, Not, OpenBracket, OpenParenthesis};
 ghost use Rattle.slicc_ast.specs.declared.tree.token.TokenKind.TheVariants.{Name as Named};
-ghost use Rattle.slicc_ast.specs.declared.tree.token.Word.TheVariants.{IsInvalid as IsInvalidWord, IsValid as IsValidWord};
-ghost use Rattle.slicc_ast.specs.Ahead.{first_of_constant, first_of_expression, first_of_opening};
-ghost use Rattle.slicc_ast.specs.Form.Form.{arguments as arguments_form, constant as constant_form, expression as expression_form, name_end, opening as opening_form, suffix as suffix_form, unary as unary_form};
-ghost use Rattle.slicc_ast.specs.Parts.{◌▸◌, colon, comma, name as name_part, of, optional, parentheses, prefixed as prefixed_part, repeated, sign as sign_part, word as word_part};
-ghost use Rattle.slicc_ast.specs.TokenKinds.{sign_kind, word_kind};
-ghost use Rattle.slicc_lex.specs.Syntax.{symbols};
-ghost use Rattle.slicc_expr.specs.Levels.{cast_inner, cast_part, chain, chains, enclosed as enclosed_part, form_at, kinds_at};
-ghost use Rattle.slicc_expr.specs.Nodes.{is_some, operands_before, suffixes_before};
-ghost use Rattle.slicc_reading.specs.Reading.{AreRead, IsNode, IsRead, Refuses};
+ghost use Rattle.slicc_ast.specs.declared.tree.token.Word.TheVariants.{IsInvalid, IsValid};
+ghost use Rattle.slicc_ast.specs.Form.Form.{suffix as suffix_form};
+ghost use Rattle.slicc_ast.specs.Parts.{name as name_part, sign as sign_part, word as word_part};
+ghost use Rattle.slicc_lex.specs.Prelude.{symbols};
+ghost use Rattle.slicc_expr.specs.Prelude.{cast_inner, cast_part, chain, chains, enclosed, form_at, kinds_at, is_some, operands_before, suffixes_before};
+ghost use Rattle.slicc_reading.specs.Prelude.{AreRead, IsNode, IsRead, Refuses};
 
-use crate::cast::cast_head;
 use crate::nodes;
 use crate::operator_signs::operator;
-use crate::values::{begins_expression, begins_simple, new_entry, simple};
+use crate::values::{begins_expression, begins_simple, cast_head, new_entry, simple};
 use slicc_ast::tree::{Args, Expr, Name, Operand, Sign, Suffix, TypeName, Word};
 use slicc_ast::{Seq, Text};
 use slicc_lex::Token;
 use slicc_reading::{
-    Fault, added, called, ended, is_name, is_sign, is_word, joined, name, name_after, open, refuse,
-    sign, span,
+    Fault, Read, added, called, ended, is_name, is_sign, is_word, joined, name, name_after, open,
+    refuse, sign, span,
 };
 use std::alloc::Global;
 
@@ -45,10 +41,10 @@ macro_rules! with_left {
 pub const LEVELS: u8 = 6;
 
 /// An expression.
-pub fn expression(alloc: Global, room: u32, tokens: &[Token]) -> Result<(Expr, &[Token]), Fault>
+pub fn expression(alloc: Global, room: u32, tokens: &[Token]) -> Read<Expr>
     ensures read { MatchResult result
-        (λ read. IsRead room (of expression_form) (expr read.0) tokens.now tokens.now read.1.now)
-        (Refuses room (of expression_form) tokens.now) }
+        (λ read. IsRead room (of expression) (expr read.0) tokens.now tokens.now read.1.now)
+        (Refuses room (of expression) tokens.now) }
     ensures shorter { IfOk result (λ read. length read.1.now < length tokens.now) }
 {
     level(alloc, room, LEVELS, tokens)
@@ -56,7 +52,7 @@ pub fn expression(alloc: Global, room: u32, tokens: &[Token]) -> Result<(Expr, &
 
 /// An expression with operators of the levels below this height alone.
 #[cycle(expression)]
-fn level(alloc: Global, room: u32, height: u8, tokens: &[Token]) -> Result<(Expr, &[Token]), Fault>
+fn level(alloc: Global, room: u32, height: u8, tokens: &[Token]) -> Read<Expr>
     requires { height ≤ 6 }
     ensures read { MatchResult result
         (λ read. IsRead room (of (form_at height)) (expr read.0) tokens.now tokens.now read.1.now)
@@ -82,7 +78,7 @@ pub fn operators<'t>(
     start: &[Token],
     first: Expr,
     tokens: &'t [Token],
-) -> Result<(Expr, &'t [Token]), Fault>
+) -> Read<'t, Expr>
     requires within { height ≤ 6 }
     requires first { IsNode (expr first) start.now tokens.now }
     requires tight { 7 ≤ level_of first }
@@ -116,7 +112,7 @@ fn operation<'t>(
     start: &[Token],
     first: Expr,
     tokens: &'t [Token],
-) -> Result<(Expr, &'t [Token]), Fault>
+) -> Read<'t, Expr>
     requires within { height ≤ 5 }
     requires first { IsNode (expr first) start.now tokens.now }
     requires tight { 7 ≤ height + level_of first }
@@ -142,12 +138,7 @@ fn operation<'t>(
 
 /// Operators of this height, each with its operand.
 #[cycle(expression)]
-fn operands<'t>(
-    alloc: Global,
-    room: u32,
-    height: u8,
-    tokens: &'t [Token],
-) -> Result<(Seq<Operand>, &'t [Token]), Fault>
+fn operands<'t>(alloc: Global, room: u32, height: u8, tokens: &'t [Token]) -> Read<'t, Seq<Operand>>
     requires within { height ≤ 5 }
     requires begins { is_ahead (kinds_at height) (symbols tokens.now) ≡ true }
     ensures read { MatchResult result
@@ -170,11 +161,11 @@ fn operands<'t>(
 }
 
 #[cycle(expression)]
-fn unary(alloc: Global, room: u32, tokens: &[Token]) -> Result<(Expr, &[Token]), Fault>
+fn unary(alloc: Global, room: u32, tokens: &[Token]) -> Read<Expr>
     requires { is_ahead first_of_expression (symbols tokens.now) ≡ true }
     ensures read { MatchResult result
-        (λ read. IsRead room (of unary_form) (expr read.0) tokens.now tokens.now read.1.now)
-        (Refuses room (of unary_form) tokens.now) }
+        (λ read. IsRead room (of unary) (expr read.0) tokens.now tokens.now read.1.now)
+        (Refuses room (of unary) tokens.now) }
     ensures tight { IfOk result (λ read. 7 ≤ level_of read.0) }
     ensures shorter { IfOk result (λ read. length read.1.now < length tokens.now) }
 {
@@ -189,11 +180,11 @@ fn unary(alloc: Global, room: u32, tokens: &[Token]) -> Result<(Expr, &[Token]),
 
 /// A unary expression that doesn't begin with a name.
 #[cycle(expression)]
-pub fn opening(alloc: Global, room: u32, tokens: &[Token]) -> Result<(Expr, &[Token]), Fault>
+pub fn opening(alloc: Global, room: u32, tokens: &[Token]) -> Read<Expr>
     requires { is_ahead first_of_opening (symbols tokens.now) ≡ true }
     ensures read { MatchResult result
-        (λ read. IsRead room (of opening_form) (expr read.0) tokens.now tokens.now read.1.now)
-        (Refuses room (of opening_form) tokens.now) }
+        (λ read. IsRead room (of opening) (expr read.0) tokens.now tokens.now read.1.now)
+        (Refuses room (of opening) tokens.now) }
     ensures tight { IfOk result (λ read. 7 ≤ level_of read.0) }
     ensures shorter { IfOk result (λ read. length read.1.now < length tokens.now) }
 {
@@ -211,10 +202,10 @@ pub fn opening(alloc: Global, room: u32, tokens: &[Token]) -> Result<(Expr, &[To
 
 /// `!` and its operand.
 #[cycle(expression)]
-fn not(alloc: Global, room: u32, tokens: &[Token]) -> Result<(Expr, &[Token]), Fault>
+fn not(alloc: Global, room: u32, tokens: &[Token]) -> Read<Expr>
     ensures read { MatchResult result
-        (λ read. IsRead room (prefixed_part NotSign (of unary_form)) (expr read.0) tokens.now tokens.now read.1.now)
-        (Refuses room (prefixed_part NotSign (of unary_form)) tokens.now) }
+        (λ read. IsRead room (prefixed Not (of unary)) (expr read.0) tokens.now tokens.now read.1.now)
+        (Refuses room (prefixed Not (of unary)) tokens.now) }
     ensures tight { IfOk result (λ read. 7 ≤ level_of read.0) }
     ensures shorter { IfOk result (λ read. length read.1.now < length tokens.now) }
 {
@@ -229,10 +220,10 @@ fn not(alloc: Global, room: u32, tokens: &[Token]) -> Result<(Expr, &[Token]), F
 
 /// `-` and its operand.
 #[cycle(expression)]
-fn negate(alloc: Global, room: u32, tokens: &[Token]) -> Result<(Expr, &[Token]), Fault>
+fn negate(alloc: Global, room: u32, tokens: &[Token]) -> Read<Expr>
     ensures read { MatchResult result
-        (λ read. IsRead room (prefixed_part MinusSign (of unary_form)) (expr read.0) tokens.now tokens.now read.1.now)
-        (Refuses room (prefixed_part MinusSign (of unary_form)) tokens.now) }
+        (λ read. IsRead room (prefixed Minus (of unary)) (expr read.0) tokens.now tokens.now read.1.now)
+        (Refuses room (prefixed Minus (of unary)) tokens.now) }
     ensures tight { IfOk result (λ read. 7 ≤ level_of read.0) }
     ensures shorter { IfOk result (λ read. length read.1.now < length tokens.now) }
 {
@@ -256,7 +247,7 @@ pub fn after_name<'t>(
     start: &[Token],
     owner: Name,
     tokens: &'t [Token],
-) -> Result<(Expr, &'t [Token]), Fault>
+) -> Read<'t, Expr>
     requires { IsNode (node owner.span (token (Named owner.text) none)) start.now tokens.now }
     ensures read { MatchResult result
         (λ read. IsRead room (optional (of name_end) ▸ repeated (of suffix_form)) (expr read.0) start.now tokens.now read.1.now)
@@ -276,7 +267,7 @@ fn named<'t>(
     start: &[Token],
     owner: Name,
     tokens: &'t [Token],
-) -> Result<(Expr, &'t [Token]), Fault>
+) -> Read<'t, Expr>
     requires { IsNode (node owner.span (token (Named owner.text) none)) start.now tokens.now }
     ensures read { MatchResult result
         (λ read. IsRead room (optional (of name_end)) (expr read.0) start.now tokens.now read.1.now)
@@ -297,10 +288,10 @@ fn named<'t>(
 
 /// Arguments in parentheses.
 #[cycle(expression)]
-fn arguments(alloc: Global, room: u32, tokens: &[Token]) -> Result<(Args, &[Token]), Fault>
+fn arguments(alloc: Global, room: u32, tokens: &[Token]) -> Read<Args>
     ensures read { MatchResult result
-        (λ read. AreRead room (parentheses (optional (of arguments_form))) (λ others. sign_of OpenParenthesis (part (args_of read.0) (sign_of CloseParenthesis others))) tokens.now read.1.now)
-        (Refuses room (parentheses (optional (of arguments_form))) tokens.now) }
+        (λ read. AreRead room (parentheses (optional (of arguments))) (λ others. sign_of OpenParenthesis (part (args read.0) (sign_of CloseParenthesis others))) tokens.now read.1.now)
+        (Refuses room (parentheses (optional (of arguments))) tokens.now) }
     ensures shorter { IfOk result (λ read. length read.1.now < length tokens.now) }
 {
     match open(room, Sign::OpenParenthesis, tokens) {
@@ -315,10 +306,10 @@ fn arguments(alloc: Global, room: u32, tokens: &[Token]) -> Result<(Args, &[Toke
 
 /// Expressions with a comma between each two, or nothing where no expression begins.
 #[cycle(expression)]
-fn argument_list(alloc: Global, room: u32, tokens: &[Token]) -> Result<(Args, &[Token]), Fault>
+fn argument_list(alloc: Global, room: u32, tokens: &[Token]) -> Read<Args>
     ensures { MatchResult result
-        (λ read. IsRead room (optional (of arguments_form)) (args_of read.0) tokens.now tokens.now read.1.now)
-        (Refuses room (optional (of arguments_form)) tokens.now) }
+        (λ read. IsRead room (optional (of arguments)) (args read.0) tokens.now tokens.now read.1.now)
+        (Refuses room (optional (of arguments)) tokens.now) }
 {
     let mut items = Seq::new(alloc);
     if !begins_expression(tokens) {
@@ -344,10 +335,10 @@ fn argument_list(alloc: Global, room: u32, tokens: &[Token]) -> Result<(Args, &[
 
 /// A comma and an expression.
 #[cycle(expression)]
-fn next_argument(alloc: Global, room: u32, tokens: &[Token]) -> Result<(Expr, &[Token]), Fault>
+fn next_argument(alloc: Global, room: u32, tokens: &[Token]) -> Read<Expr>
     ensures read { MatchResult result
-        (λ read. AreRead room (comma ▸ of expression_form) (λ others. sign_of Comma (part (expr read.0) others)) tokens.now read.1.now)
-        (Refuses room (comma ▸ of expression_form) tokens.now) }
+        (λ read. AreRead room (comma ▸ of expression) (λ others. sign_of Comma (part (expr read.0) others)) tokens.now read.1.now)
+        (Refuses room (comma ▸ of expression) tokens.now) }
     ensures shorter { IfOk result (λ read. length read.1.now < length tokens.now) }
 {
     match sign(room, Sign::Comma, tokens) {
@@ -364,7 +355,7 @@ fn suffixes<'t>(
     start: &[Token],
     value: Expr,
     tokens: &'t [Token],
-) -> Result<(Expr, &'t [Token]), Fault>
+) -> Read<'t, Expr>
     requires value { IsNode (expr value) start.now tokens.now }
     requires tight { 9 ≤ level_of value }
     ensures read { MatchResult result
@@ -389,7 +380,7 @@ fn suffixes<'t>(
 
 /// At least one member, call or index.
 #[cycle(expression)]
-fn suffix_list(alloc: Global, room: u32, tokens: &[Token]) -> Result<(Seq<Suffix>, &[Token]), Fault>
+fn suffix_list(alloc: Global, room: u32, tokens: &[Token]) -> Read<Seq<Suffix>>
     requires { is_ahead (sign_kind Dot ∷ sign_kind OpenBracket ∷ []) (symbols tokens.now) ≡ true }
     ensures read { MatchResult result
         (λ read. AreRead room (repeated (of suffix_form)) (suffixes_before read.0) tokens.now read.1.now)
@@ -415,10 +406,10 @@ fn begins_suffix(tokens: &[Token]) -> bool
 
 /// A member, a call or an index.
 #[cycle(expression)]
-fn suffix(alloc: Global, room: u32, tokens: &[Token]) -> Result<(Suffix, &[Token]), Fault>
+fn suffix(alloc: Global, room: u32, tokens: &[Token]) -> Read<Suffix>
     requires { is_ahead (sign_kind Dot ∷ sign_kind OpenBracket ∷ []) (symbols tokens.now) ≡ true }
     ensures read { MatchResult result
-        (λ read. IsRead room (of suffix_form) (suffix_of read.0) tokens.now tokens.now read.1.now)
+        (λ read. IsRead room (of suffix_form) (suffix read.0) tokens.now tokens.now read.1.now)
         (Refuses room (of suffix_form) tokens.now) }
     ensures shorter { IfOk result (λ read. length read.1.now < length tokens.now) }
 {
@@ -433,10 +424,10 @@ fn suffix(alloc: Global, room: u32, tokens: &[Token]) -> Result<(Suffix, &[Token
 
 /// `.`, a name, and arguments where there are any.
 #[cycle(expression)]
-fn dotted(alloc: Global, room: u32, tokens: &[Token]) -> Result<(Suffix, &[Token]), Fault>
+fn dotted(alloc: Global, room: u32, tokens: &[Token]) -> Read<Suffix>
     ensures read { MatchResult result
-        (λ read. IsRead room (sign_part Dot ▸ name_part ▸ optional (parentheses (optional (of arguments_form)))) (suffix_of read.0) tokens.now tokens.now read.1.now)
-        (Refuses room (sign_part Dot ▸ name_part ▸ optional (parentheses (optional (of arguments_form)))) tokens.now) }
+        (λ read. IsRead room (sign_part Dot ▸ name_part ▸ optional (parentheses (optional (of arguments)))) (suffix read.0) tokens.now tokens.now read.1.now)
+        (Refuses room (sign_part Dot ▸ name_part ▸ optional (parentheses (optional (of arguments)))) tokens.now) }
     ensures shorter { IfOk result (λ read. length read.1.now < length tokens.now) }
 {
     match name_after(alloc, room, Sign::Dot, tokens) {
@@ -463,7 +454,7 @@ fn member<'t>(
     start: &[Token],
     owner: Name,
     tokens: &'t [Token],
-) -> Result<(Expr, &'t [Token]), Fault>
+) -> Read<'t, Expr>
     requires { IsNode (node owner.span (token (Named owner.text) none)) start.now tokens.now }
     ensures read { MatchResult result
         (λ read. IsRead room (colon ▸ name_part) (expr read.0) start.now tokens.now read.1.now)
@@ -491,16 +482,10 @@ fn member<'t>(
 
 /// An expression between an opening sign and a closing one.
 #[cycle(expression)]
-fn enclosed(
-    alloc: Global,
-    room: u32,
-    opener: Sign,
-    closer: Sign,
-    tokens: &[Token],
-) -> Result<(Expr, &[Token]), Fault>
+fn enclosed(alloc: Global, room: u32, opener: Sign, closer: Sign, tokens: &[Token]) -> Read<Expr>
     ensures read { MatchResult result
-        (λ read. AreRead room (enclosed_part opener closer (of expression_form)) (λ others. sign_of opener (part (expr read.0) (sign_of closer others))) tokens.now read.1.now)
-        (Refuses room (enclosed_part opener closer (of expression_form)) tokens.now) }
+        (λ read. AreRead room (enclosed opener closer (of expression)) (λ others. sign_of opener (part (expr read.0) (sign_of closer others))) tokens.now read.1.now)
+        (Refuses room (enclosed opener closer (of expression)) tokens.now) }
     ensures shorter { IfOk result (λ read. length read.1.now < length tokens.now) }
 {
     match open(room, opener, tokens) {
@@ -511,11 +496,11 @@ fn enclosed(
 
 /// A primary expression that doesn't begin with a name.
 #[cycle(expression)]
-fn constant(alloc: Global, room: u32, tokens: &[Token]) -> Result<(Expr, &[Token]), Fault>
+fn constant(alloc: Global, room: u32, tokens: &[Token]) -> Read<Expr>
     requires { is_ahead first_of_constant (symbols tokens.now) ≡ true }
     ensures read { MatchResult result
-        (λ read. IsRead room (of constant_form) (expr read.0) tokens.now tokens.now read.1.now)
-        (Refuses room (of constant_form) tokens.now) }
+        (λ read. IsRead room (of constant) (expr read.0) tokens.now tokens.now read.1.now)
+        (Refuses room (of constant) tokens.now) }
     ensures tight { IfOk result (λ read. 9 ≤ level_of read.0) }
     ensures shorter { IfOk result (λ read. length read.1.now < length tokens.now) }
 {
@@ -536,10 +521,10 @@ fn constant(alloc: Global, room: u32, tokens: &[Token]) -> Result<(Expr, &[Token
 
 /// An expression in parentheses.
 #[cycle(expression)]
-fn group(alloc: Global, room: u32, tokens: &[Token]) -> Result<(Expr, &[Token]), Fault>
+fn group(alloc: Global, room: u32, tokens: &[Token]) -> Read<Expr>
     ensures read { MatchResult result
-        (λ read. IsRead room (parentheses (of expression_form)) (expr read.0) tokens.now tokens.now read.1.now)
-        (Refuses room (parentheses (of expression_form)) tokens.now) }
+        (λ read. IsRead room (parentheses (of expression)) (expr read.0) tokens.now tokens.now read.1.now)
+        (Refuses room (parentheses (of expression)) tokens.now) }
     ensures tight { IfOk result (λ read. 9 ≤ level_of read.0) }
     ensures shorter { IfOk result (λ read. length read.1.now < length tokens.now) }
 {
@@ -557,11 +542,11 @@ fn group(alloc: Global, room: u32, tokens: &[Token]) -> Result<(Expr, &[Token]),
 
 /// `is_valid` or `is_invalid` of an expression in parentheses.
 #[cycle(expression)]
-fn validity(alloc: Global, room: u32, tokens: &[Token]) -> Result<(Expr, &[Token]), Fault>
-    requires { is_ahead (word_kind IsValidWord ∷ word_kind IsInvalidWord ∷ []) (symbols tokens.now) ≡ true }
+fn validity(alloc: Global, room: u32, tokens: &[Token]) -> Read<Expr>
+    requires { is_ahead (word_kind IsValid ∷ word_kind IsInvalid ∷ []) (symbols tokens.now) ≡ true }
     ensures read { MatchResult result
-        (λ read. IsRead room (of constant_form) (expr read.0) tokens.now tokens.now read.1.now)
-        (Refuses room (of constant_form) tokens.now) }
+        (λ read. IsRead room (of constant) (expr read.0) tokens.now tokens.now read.1.now)
+        (Refuses room (of constant) tokens.now) }
     ensures tight { IfOk result (λ read. 9 ≤ level_of read.0) }
     ensures shorter { IfOk result (λ read. length read.1.now < length tokens.now) }
 {
@@ -582,15 +567,10 @@ fn validity(alloc: Global, room: u32, tokens: &[Token]) -> Result<(Expr, &[Token
 
 /// A word and an expression in parentheses.
 #[cycle(expression)]
-pub fn tested(
-    alloc: Global,
-    room: u32,
-    which: Word,
-    tokens: &[Token],
-) -> Result<(Expr, &[Token]), Fault>
+pub fn tested(alloc: Global, room: u32, which: Word, tokens: &[Token]) -> Read<Expr>
     ensures read { MatchResult result
-        (λ read. AreRead room (word_part which ▸ parentheses (of expression_form)) (λ others. word_of which (sign_of OpenParenthesis (part (expr read.0) (sign_of CloseParenthesis others)))) tokens.now read.1.now)
-        (Refuses room (word_part which ▸ parentheses (of expression_form)) tokens.now) }
+        (λ read. AreRead room (word_part which ▸ parentheses (of expression)) (λ others. word_of which (sign_of OpenParenthesis (part (expr read.0) (sign_of CloseParenthesis others)))) tokens.now read.1.now)
+        (Refuses room (word_part which ▸ parentheses (of expression)) tokens.now) }
     ensures shorter { IfOk result (λ read. length read.1.now < length tokens.now) }
 {
     match called(room, which, tokens) {
@@ -605,7 +585,7 @@ pub fn tested(
 
 /// `static_cast`, with a type, perhaps a string, and an expression in parentheses.
 #[cycle(expression)]
-fn cast(alloc: Global, room: u32, tokens: &[Token]) -> Result<(Expr, &[Token]), Fault>
+fn cast(alloc: Global, room: u32, tokens: &[Token]) -> Read<Expr>
     ensures read { MatchResult result
         (λ read. IsRead room cast_part (expr read.0) tokens.now tokens.now read.1.now)
         (Refuses room cast_part tokens.now) }
@@ -630,11 +610,7 @@ fn cast(alloc: Global, room: u32, tokens: &[Token]) -> Result<(Expr, &[Token]), 
 
 /// What stands behind the opening parenthesis of a cast.
 #[cycle(expression)]
-fn converted(
-    alloc: Global,
-    room: u32,
-    tokens: &[Token],
-) -> Result<(((TypeName, Option<Text>), Expr), &[Token]), Fault>
+fn converted(alloc: Global, room: u32, tokens: &[Token]) -> Read<((TypeName, Option<Text>), Expr)>
     ensures read { MatchResult result
         (λ read. AreRead room cast_inner (λ others. type_name read.0.0.0 (sign_of Comma (mode_parts read.0.0.1 (part (expr read.0.1) (sign_of CloseParenthesis others))))) tokens.now read.1.now)
         (Refuses room cast_inner tokens.now) }

@@ -3,14 +3,11 @@
 
 mod blocks;
 mod called_statements;
-mod cast;
 mod expressions;
 mod nodes;
 mod operator_signs;
 mod plain_statements;
-mod port_heads;
 mod reading;
-mod statement_ahead;
 mod statement_values;
 mod values;
 

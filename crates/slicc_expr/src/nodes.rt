@@ -1,11 +1,11 @@
 //! Nodes of expressions that hold expressions, made of their parts, each with what it is spelled by.
 ghost use Rattle.std.specs.Prelude.{◌≡◌, IfOk, nat_le};
-ghost use Rattle.slicc_ast.specs.declared.tree.token.Sign.TheVariants.{CloseBracket, CloseParenthesis, Comma, Dot, Minus as MinusSign, Not as NotSign, OpenBracket, OpenParenthesis};
-ghost use Rattle.slicc_ast.specs.declared.tree.token.Word.TheVariants.{IsInvalid as IsInvalidWord, IsValid as IsValidWord, StaticCast};
-ghost use Rattle.slicc_ast.specs.Expressions.{args, expr, level_of, list_level, mode_parts, suffix};
-ghost use Rattle.slicc_ast.specs.Names.{name as name_of, sign, type_name, word};
-ghost use Rattle.slicc_ast.specs.Outline.{node, none, part, provided};
-ghost use Rattle.slicc_expr.specs.Nodes.{operation_node, postfix_node};
+ghost use Rattle.slicc_ast.specs.declared.tree.token.Sign.TheVariants.{CloseBracket, CloseParenthesis, Comma, Dot, Minus, Not, OpenBracket, OpenParenthesis};
+ghost use Rattle.slicc_ast.specs.declared.tree.token.Word.TheVariants.{IsInvalid, IsValid, StaticCast};
+ghost use Rattle.slicc_ast.specs.Expressions.{suffix};
+ghost use Rattle.slicc_ast.specs.Prelude.{args, expr, level_of, list_level, mode_parts, type_name, node, none, part, provided};
+ghost use Rattle.slicc_ast.specs.Names.{name as name_of, sign, word};
+ghost use Rattle.slicc_expr.specs.Prelude.{operation_node, postfix_node};
 
 use ruby_base::{Boxed, Seq};
 use slicc_ast::tree::{Args, Expr, Name, Operand, Span, Suffix, TypeName};
@@ -33,7 +33,7 @@ pub fn operation(
 #[tactic(auto, using(crate::proofs::MadeNodes::expr_of_Not, crate::proofs::MadeNodes::level_of_Not))]
 pub fn not(alloc: Global, operand: Expr, span: Span) -> Result<Expr, NoMemory>
     ensures spells { IfOk result (λ e. expr e ≡ node span
-        (provided (nat_le 7 (level_of operand)) (sign NotSign (part (expr operand) none)))) }
+        (provided (nat_le 7 (level_of operand)) (sign Not (part (expr operand) none)))) }
     ensures level { IfOk result (λ e. level_of e ≡ 7) }
 {
     Ok(Expr::Not(Boxed::new(alloc, operand)?, span))
@@ -42,7 +42,7 @@ pub fn not(alloc: Global, operand: Expr, span: Span) -> Result<Expr, NoMemory>
 #[tactic(auto, using(crate::proofs::MadeNodes::expr_of_Negate, crate::proofs::MadeNodes::level_of_Negate))]
 pub fn negate(alloc: Global, operand: Expr, span: Span) -> Result<Expr, NoMemory>
     ensures spells { IfOk result (λ e. expr e ≡ node span
-        (provided (nat_le 7 (level_of operand)) (sign MinusSign (part (expr operand) none)))) }
+        (provided (nat_le 7 (level_of operand)) (sign Minus (part (expr operand) none)))) }
     ensures level { IfOk result (λ e. level_of e ≡ 7) }
 {
     Ok(Expr::Negate(Boxed::new(alloc, operand)?, span))
@@ -102,7 +102,7 @@ pub fn call(name: Name, arguments: Args, span: Span) -> Expr
 #[tactic(auto, using(crate::proofs::MadeNodes::expr_of_IsValid, crate::proofs::MadeNodes::level_of_IsValid))]
 pub fn is_valid(alloc: Global, value: Expr, span: Span) -> Result<Expr, NoMemory>
     ensures spells { IfOk result (λ e. expr e ≡ node span
-        (word IsValidWord (sign OpenParenthesis (part (expr value) (sign CloseParenthesis none))))) }
+        (word IsValid (sign OpenParenthesis (part (expr value) (sign CloseParenthesis none))))) }
     ensures level { IfOk result (λ e. level_of e ≡ 9) }
 {
     Ok(Expr::IsValid(Boxed::new(alloc, value)?, span))
@@ -111,7 +111,7 @@ pub fn is_valid(alloc: Global, value: Expr, span: Span) -> Result<Expr, NoMemory
 #[tactic(auto, using(crate::proofs::MadeNodes::expr_of_IsInvalid, crate::proofs::MadeNodes::level_of_IsInvalid))]
 pub fn is_invalid(alloc: Global, value: Expr, span: Span) -> Result<Expr, NoMemory>
     ensures spells { IfOk result (λ e. expr e ≡ node span
-        (word IsInvalidWord (sign OpenParenthesis (part (expr value) (sign CloseParenthesis none))))) }
+        (word IsInvalid (sign OpenParenthesis (part (expr value) (sign CloseParenthesis none))))) }
     ensures level { IfOk result (λ e. level_of e ≡ 9) }
 {
     Ok(Expr::IsInvalid(Boxed::new(alloc, value)?, span))

@@ -1,12 +1,10 @@
 //! The operators between two operands.
 ghost use Rattle.std.specs.Option.{IfSome};
 ghost use Rattle.std.specs.Prelude.{◌≡◌, ◌<◌, ◌≤◌, ◌+◌, ℕ, false, length, MatchOption};
-ghost use Rattle.slicc_ast.specs.Kinds.{has, is_ahead};
-ghost use Rattle.slicc_ast.specs.Expressions.{operator_level, operator_sign};
+ghost use Rattle.slicc_ast.specs.Prelude.{has, is_ahead, operator_level, operator_sign, kind_of, sign_kind};
 ghost use Rattle.slicc_ast.specs.declared.tree.token.TokenKind.TheVariants.{Sign as SignOf};
-ghost use Rattle.slicc_ast.specs.TokenKinds.{kind_of, sign_kind};
-ghost use Rattle.slicc_lex.specs.Syntax.{symbols};
-ghost use Rattle.slicc_expr.specs.Levels.{IsOperator, kinds_at};
+ghost use Rattle.slicc_lex.specs.Prelude.{symbols};
+ghost use Rattle.slicc_expr.specs.Prelude.{IsOperator, kinds_at};
 
 use slicc_ast::tree::{Operator, Sign, TokenKind};
 use slicc_lex::Token;

@@ -1,23 +1,18 @@
 //! Statements that begin with an expression or with `return`, and declarations of variables.
 ghost use Rattle.std.specs.Prelude.{◌≡◌, ◌<◌, true, length, IfOk, MatchResult};
-ghost use Rattle.slicc_ast.specs.Kinds.{is_ahead};
-ghost use Rattle.slicc_ast.specs.Expressions.{expr};
-ghost use Rattle.slicc_ast.specs.Statements.{stmt};
+ghost use Rattle.slicc_ast.specs.Prelude.{is_ahead, expr, stmt, first_of_opening, statement_end, ◌▸◌, of, semicolon};
 ghost use Rattle.slicc_ast.specs.declared.tree.token.Sign.TheVariants.{Assign};
-ghost use Rattle.slicc_ast.specs.Ahead.{first_of_opening};
-ghost use Rattle.slicc_ast.specs.Form.Form.{statement_end as end_form};
-ghost use Rattle.slicc_ast.specs.Parts.{◌▸◌, name as name_part, of, semicolon};
-ghost use Rattle.slicc_lex.specs.Syntax.{symbols};
-ghost use Rattle.slicc_reading.specs.Reading.{IsNode, IsRead, Refuses};
-ghost use Rattle.slicc_expr.specs.StatementParts.{expression_end, name_outline, named_value as named_form, opening_value as opening_form, return_form};
+ghost use Rattle.slicc_ast.specs.Parts.{name};
+ghost use Rattle.slicc_lex.specs.Prelude.{symbols};
+ghost use Rattle.slicc_reading.specs.Prelude.{IsNode, IsRead, Refuses};
+ghost use Rattle.slicc_expr.specs.Prelude.{expression_end, name_outline, named_value, opening_value, return_form};
 
-use crate::statement_ahead::goes_on_behind_name;
 use crate::statement_values::{
-    named_value, opening_value, optional_value, value_after, value_behind,
+    goes_on_behind_name, named_value, opening_value, optional_value, value_after, value_behind,
 };
 use slicc_ast::tree::{Expr, Name, Sign, Stmt, TypeName, Word};
 use slicc_lex::Token;
-use slicc_reading::{Fault, ended, is_name, is_sign, name, refuse, sign, span, word};
+use slicc_reading::{Read, ended, is_name, is_sign, name, refuse, sign, span, word};
 use std::alloc::Global;
 
 /// Goes on behind the expression that a statement begins with.
@@ -27,7 +22,7 @@ fn behind_expression<'t>(
     start: &[Token],
     place: Expr,
     tokens: &'t [Token],
-) -> Result<(Stmt, &'t [Token]), Fault>
+) -> Read<'t, Stmt>
     requires { IsNode (expr place) start.now tokens.now }
     ensures { MatchResult result
         (λ read. IsRead room expression_end (stmt read.0) start.now tokens.now read.1.now)
@@ -68,11 +63,11 @@ fn declaration<'t>(
     start: &[Token],
     owner: Name,
     tokens: &'t [Token],
-) -> Result<(Stmt, &'t [Token]), Fault>
+) -> Read<'t, Stmt>
     requires { IsNode (name_outline owner) start.now tokens.now }
     ensures { MatchResult result
-        (λ read. IsRead room (named_form Assign ▸ semicolon) (stmt read.0) start.now tokens.now read.1.now)
-        (Refuses room (named_form Assign ▸ semicolon) tokens.now) }
+        (λ read. IsRead room (named_value Assign ▸ semicolon) (stmt read.0) start.now tokens.now read.1.now)
+        (Refuses room (named_value Assign ▸ semicolon) tokens.now) }
 {
     let named = named_value(alloc, room, Sign::Assign, tokens);
     match ended(room, named, Sign::Semicolon) {
@@ -105,11 +100,11 @@ fn behind_name<'t>(
     start: &[Token],
     owner: Name,
     tokens: &'t [Token],
-) -> Result<(Stmt, &'t [Token]), Fault>
+) -> Read<'t, Stmt>
     requires { IsNode (name_outline owner) start.now tokens.now }
     ensures { MatchResult result
-        (λ read. IsRead room (of end_form) (stmt read.0) start.now tokens.now read.1.now)
-        (Refuses room (of end_form) tokens.now) }
+        (λ read. IsRead room (of statement_end) (stmt read.0) start.now tokens.now read.1.now)
+        (Refuses room (of statement_end) tokens.now) }
 {
     if is_name(tokens) {
         return declaration(alloc, room, start, owner, tokens);
@@ -125,10 +120,10 @@ fn behind_name<'t>(
 }
 
 /// A statement that begins with a name.
-pub fn name_statement(alloc: Global, room: u32, tokens: &[Token]) -> Result<(Stmt, &[Token]), Fault>
+pub fn name_statement(alloc: Global, room: u32, tokens: &[Token]) -> Read<Stmt>
     ensures read { MatchResult result
-        (λ read. IsRead room (name_part ▸ of end_form) (stmt read.0) tokens.now tokens.now read.1.now)
-        (Refuses room (name_part ▸ of end_form) tokens.now) }
+        (λ read. IsRead room (name ▸ of statement_end) (stmt read.0) tokens.now tokens.now read.1.now)
+        (Refuses room (name ▸ of statement_end) tokens.now) }
     ensures shorter { IfOk result (λ read. length read.1.now < length tokens.now) }
 {
     match name(alloc, room, tokens) {
@@ -138,16 +133,12 @@ pub fn name_statement(alloc: Global, room: u32, tokens: &[Token]) -> Result<(Stm
 }
 
 /// A statement that begins with an expression, and that one not with a name.
-pub fn opening_statement(
-    alloc: Global,
-    room: u32,
-    tokens: &[Token],
-) -> Result<(Stmt, &[Token]), Fault>
+pub fn opening_statement(alloc: Global, room: u32, tokens: &[Token]) -> Read<Stmt>
     requires { is_ahead first_of_opening (symbols tokens.now) ≡ true }
     ensures read { MatchResult result
-        (λ read. IsRead room (opening_form ▸ expression_end)
+        (λ read. IsRead room (opening_value ▸ expression_end)
         (stmt read.0) tokens.now tokens.now read.1.now)
-        (Refuses room (opening_form ▸ expression_end) tokens.now) }
+        (Refuses room (opening_value ▸ expression_end) tokens.now) }
     ensures shorter { IfOk result (λ read. length read.1.now < length tokens.now) }
 {
     match opening_value(alloc, room, tokens) {
@@ -157,11 +148,7 @@ pub fn opening_statement(
 }
 
 /// `return`, an expression where there is one, and `;`.
-pub fn return_statement(
-    alloc: Global,
-    room: u32,
-    tokens: &[Token],
-) -> Result<(Stmt, &[Token]), Fault>
+pub fn return_statement(alloc: Global, room: u32, tokens: &[Token]) -> Read<Stmt>
     ensures read { MatchResult result
         (λ read. IsRead room return_form (stmt read.0) tokens.now tokens.now read.1.now)
         (Refuses room return_form tokens.now) }

@@ -1,10 +1,9 @@
 //! Readings of the tokens of a whole text from a place on.
 ghost use Rattle.std.specs.Prelude.{◌<◌, ◌≤◌, length, MatchResult};
-ghost use Rattle.slicc_ast.specs.Expressions.{expr};
-ghost use Rattle.slicc_ast.specs.Statements.{block_outline};
-ghost use Rattle.slicc_ast.specs.Form.Form.{block as block_form, expression as expression_form};
-ghost use Rattle.slicc_lex.specs.Syntax.{AreEnded, IsReadAs};
-ghost use Rattle.slicc_reading.specs.Answers.{IsFaultFrom};
+ghost use Rattle.slicc_ast.specs.Prelude.{expr, block_outline, expression};
+ghost use Rattle.slicc_ast.specs.Form.Form.{block};
+ghost use Rattle.slicc_lex.specs.Prelude.{AreEnded, IsReadAs};
+ghost use Rattle.slicc_reading.specs.Prelude.{IsFaultFrom};
 
 use crate::blocks::statement_block;
 use crate::expressions::expression;
@@ -27,8 +26,8 @@ pub fn expr(
     requires size { length tokens.now ≤ 1048577 }
     requires ended { AreEnded tokens.now }
     ensures { MatchResult result
-        (λ read. IsReadAs expression_form depth tokens.now at (expr read.0) read.1)
-        (IsFaultFrom expression_form depth tokens.now at) }
+        (λ read. IsReadAs expression depth tokens.now at (expr read.0) read.1)
+        (IsFaultFrom expression depth tokens.now at) }
 {
     let count = tokens.len();
     let (_, from) = tokens.as_slice().split_at(at as usize);
@@ -51,8 +50,8 @@ pub fn block(
     requires size { length tokens.now ≤ 1048577 }
     requires ended { AreEnded tokens.now }
     ensures { MatchResult result
-        (λ read. IsReadAs block_form depth tokens.now at (block_outline read.0) read.1)
-        (IsFaultFrom block_form depth tokens.now at) }
+        (λ read. IsReadAs block depth tokens.now at (block_outline read.0) read.1)
+        (IsFaultFrom block depth tokens.now at) }
 {
     let count = tokens.len();
     let (_, from) = tokens.as_slice().split_at(at as usize);

@@ -1,23 +1,22 @@
-//! Primary expressions of one or two tokens, and what expressions begin with.
+//! Primary expressions of one or two tokens, what stands before the expression of a cast, and what expressions begin with.
 ghost use Rattle.std.specs.Prelude.{◌≡◌, ◌∷◌, ◌<◌, [], ◌≤◌, false, true, length, IfOk, MatchOption, MatchResult};
-ghost use Rattle.slicc_ast.specs.Kinds.{has, is_ahead};
-ghost use Rattle.slicc_ast.specs.Expressions.{expr, level_of};
-ghost use Rattle.slicc_ast.specs.Names.{word as word_of};
-ghost use Rattle.slicc_ast.specs.Outline.{node, none, token};
+ghost use Rattle.slicc_ast.specs.Prelude.{has, is_ahead, expr, level_of, node, none, first_of_constant, first_of_expression, first_of_opening, ◌▸◌, of, constant, kind_of, number, word_kind, mode_parts, type_name};
+ghost use Rattle.slicc_ast.specs.Names.{word as word_of, sign};
+ghost use Rattle.slicc_ast.specs.Outline.{token};
 ghost use Rattle.slicc_ast.specs.declared.tree.token.TokenKind.TheVariants.{Word as WordOf};
-ghost use Rattle.slicc_ast.specs.declared.tree.token.Word.TheVariants.{New as NewWord};
-ghost use Rattle.slicc_ast.specs.Ahead.{first_of_constant, first_of_expression, first_of_opening};
-ghost use Rattle.slicc_ast.specs.Parts.{◌▸◌, name as name_part, of, word as word_part};
-ghost use Rattle.slicc_ast.specs.Form.Form.{constant as constant_form};
-ghost use Rattle.slicc_ast.specs.TokenKinds.{kind_of, number, word_kind};
-ghost use Rattle.slicc_lex.specs.Syntax.{symbols};
-ghost use Rattle.slicc_reading.specs.Reading.{IsRead, Refuses};
-ghost use Rattle.slicc_expr.specs.Levels.{IsSimple, longer_kinds, simple_kinds};
+ghost use Rattle.slicc_ast.specs.declared.tree.token.Word.TheVariants.{New};
+ghost use Rattle.slicc_ast.specs.Parts.{name, word as word_part};
+ghost use Rattle.slicc_ast.specs.declared.tree.token.Sign.TheVariants.{Comma};
+ghost use Rattle.slicc_lex.specs.Prelude.{symbols};
+ghost use Rattle.slicc_reading.specs.Prelude.{IsRead, Refuses, AreRead};
+ghost use Rattle.slicc_expr.specs.Prelude.{IsSimple, longer_kinds, simple_kinds, cast_head, mode_part};
 
-use slicc_ast::tree::{Expr, Sign, Span, TokenKind, Word};
+use slicc_ast::Text;
+use slicc_ast::tree::{Expr, Sign, Span, TokenKind, TypeName, Word};
 use slicc_lex::Token;
 use slicc_reading::{
-    Fault, is_name, is_number, is_sign, is_word, name, refuse, span, split_first, word,
+    Read, ended, is_name, is_number, is_sign, is_string, is_word, joined, name, refuse, span,
+    split_first, string, type_name, word,
 };
 use std::alloc::Global;
 
@@ -86,11 +85,11 @@ fn value_of(kind: &TokenKind, span: Span) -> Option<Expr>
 }
 
 /// A number, or a word that stands for a value.
-pub fn simple(room: u32, tokens: &[Token]) -> Result<(Expr, &[Token]), Fault>
+pub fn simple(room: u32, tokens: &[Token]) -> Read<Expr>
     requires { is_ahead simple_kinds (symbols tokens.now) ≡ true }
     ensures read { MatchResult result
-        (λ read. IsRead room (of constant_form) (expr read.0) tokens.now tokens.now read.1.now)
-        (Refuses room (of constant_form) tokens.now) }
+        (λ read. IsRead room (of constant) (expr read.0) tokens.now tokens.now read.1.now)
+        (Refuses room (of constant) tokens.now) }
     ensures tight { IfOk result (λ read. 9 ≤ level_of read.0) }
     ensures shorter { IfOk result (λ read. length read.1.now < length tokens.now) }
 {
@@ -104,10 +103,10 @@ pub fn simple(room: u32, tokens: &[Token]) -> Result<(Expr, &[Token]), Fault>
 }
 
 /// `new` and a name.
-pub fn new_entry(alloc: Global, room: u32, tokens: &[Token]) -> Result<(Expr, &[Token]), Fault>
+pub fn new_entry(alloc: Global, room: u32, tokens: &[Token]) -> Read<Expr>
     ensures read { MatchResult result
-        (λ read. IsRead room (word_part NewWord ▸ name_part) (expr read.0) tokens.now tokens.now read.1.now)
-        (Refuses room (word_part NewWord ▸ name_part) tokens.now) }
+        (λ read. IsRead room (word_part New ▸ name) (expr read.0) tokens.now tokens.now read.1.now)
+        (Refuses room (word_part New ▸ name) tokens.now) }
     ensures tight { IfOk result (λ read. 9 ≤ level_of read.0) }
     ensures shorter { IfOk result (λ read. length read.1.now < length tokens.now) }
 {
@@ -116,6 +115,34 @@ pub fn new_entry(alloc: Global, room: u32, tokens: &[Token]) -> Result<(Expr, &[
             Ok((made, left)) => Ok((Expr::New(made, span(tokens, left)), left)),
             Err(fault) => Err(fault),
         },
+        Err(fault) => Err(fault),
+    }
+}
+
+/// A string and a comma where there is a string.
+fn optional_mode(alloc: Global, room: u32, tokens: &[Token]) -> Read<Option<Text>>
+    ensures { MatchResult result
+        (λ read. AreRead room mode_part (mode_parts read.0) tokens.now read.1.now)
+        (Refuses room mode_part tokens.now) }
+{
+    if !is_string(tokens) {
+        return Ok((None, tokens));
+    }
+    match ended(room, string(alloc, room, tokens), Sign::Comma) {
+        Ok((mode, left)) => Ok((Some(mode), left)),
+        Err(fault) => Err(fault),
+    }
+}
+
+/// A type and a comma, and a string and a comma where there is a string.
+pub fn cast_head(alloc: Global, room: u32, tokens: &[Token]) -> Read<(TypeName, Option<Text>)>
+    ensures read { MatchResult result
+        (λ read. AreRead room cast_head (λ others. type_name read.0.0 (sign Comma (mode_parts read.0.1 others))) tokens.now read.1.now)
+        (Refuses room cast_head tokens.now) }
+    ensures shorter { IfOk result (λ read. length read.1.now < length tokens.now) }
+{
+    match ended(room, type_name(alloc, room, tokens), Sign::Comma) {
+        Ok((target, behind)) => joined(target, optional_mode(alloc, room, behind)),
         Err(fault) => Err(fault),
     }
 }

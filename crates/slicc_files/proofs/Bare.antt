@@ -1,7 +1,8 @@
 -- An outline with its spans and without its conditions: an outline's shape and its spans are enough to make it again.
 use Rattle.std.proofs.Common.{◌≡◌, List, [], ◌∷◌, ◌++◌, refl, sym, ap, ◌∙◌, append_assoc}
 use Rattle.slicc_ast.specs.declared.tree.span.Span.{Span}
-use Rattle.slicc_ast.specs.Outline.{Outline, node, Parts, none, token, part, provided, no_span, shape_of, shape_in, spans_of, spans_in}
+use Rattle.slicc_ast.specs.Outline.{token}
+use Rattle.slicc_ast.specs.Prelude.{Outline, node, Parts, none, part, provided, no_span, shape_of, shape_in, spans_of, spans_in}
 
 -- the outline without its conditions
 abbrev mutual

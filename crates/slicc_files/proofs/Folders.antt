@@ -6,7 +6,7 @@ use Rattle.std.proofs.lemmas.List.Sums.{prefix_len_stops}
 use Rattle.std.proofs.lemmas.Str.{IsUtf8-take, IsCharBoundary-after_ascii, IsCharBoundary-start}
 use Rattle.std.specs.List.{suffix_len}
 use Rattle.std.specs.Str.{IsCharBoundary}
-use Rattle.slicc_files.specs.Names.{is_no_slash, folder_of}
+use Rattle.slicc_files.specs.Prelude.{is_no_slash, folder_of}
 
 not_not : (b : Bool) → not b ≡ false → b ≡ true
 not_not true is = refl

@@ -7,8 +7,9 @@ use Rattle.slicc_ast.specs.declared.tree.token.TokenKind.TheVariants.{Sign}
 use Rattle.slicc_ast.specs.declared.tree.token.Sign.TheVariants.{OpenParenthesis, OpenBracket, OpenBrace}
 use Rattle.slicc_ast.specs.declared.tree.balanced.Part.{Part, Token, Parentheses', Brackets', Braces', Row_of-Part, end_of-Part, more_of-Part}
 use Rattle.slicc_ast.specs.declared.tree.balanced.Balanced.{Balanced}
-use Rattle.slicc_ast.specs.Outline.{Outline, node, Parts, none, token, part, provided}
-use Rattle.slicc_ast.specs.Names.{balanced_part, balanced_row, balanced_list}
+use Rattle.slicc_ast.specs.Outline.{token}
+use Rattle.slicc_ast.specs.Prelude.{Outline, node, Parts, none, part, provided, balanced_row, balanced_list}
+use Rattle.slicc_ast.specs.Names.{balanced_part}
 use Rattle.slicc_files.proofs.Bare.{bare_in}
 use Rattle.slicc_files.proofs.Rows.{PartRow, listed_parts, part_row, part_row_again}
 use Rattle.slicc_files.proofs.Places.{span_of}

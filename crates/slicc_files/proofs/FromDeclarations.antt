@@ -10,7 +10,7 @@ use Rattle.slicc_ast.specs.declared.tree.name.TypeName.{TypeName}
 use Rattle.slicc_ast.specs.declared.tree.balanced.Balanced.{Balanced}
 use Rattle.slicc_ast.specs.declared.tree.declaration.Pairs.{Pairs}
 use Rattle.slicc_ast.specs.declared.tree.declaration.Pair.{Pair}
-use Rattle.slicc_ast.specs.declared.tree.declaration.Pair.TheVariants.{Named as NamedPair, Bare as BarePair}
+use Rattle.slicc_ast.specs.declared.tree.declaration.Pair.TheVariants.{Named, Bare}
 use Rattle.slicc_ast.specs.declared.tree.declaration.PairValue.{PairValue}
 use Rattle.slicc_ast.specs.declared.tree.declaration.PairValue.TheVariants.{Quoted as QuotedValue, Number as NumberValue, Name as NameValue}
 use Rattle.slicc_ast.specs.declared.tree.declaration.Formals.{Formals}
@@ -23,9 +23,10 @@ use Rattle.slicc_ast.specs.declared.tree.declaration.State.{State}
 use Rattle.slicc_ast.specs.declared.tree.declaration.Structure.{Structure}
 use Rattle.slicc_ast.specs.declared.tree.declaration.Member.{Member}
 use Rattle.slicc_ast.specs.declared.tree.declaration.Member.TheVariants.{Field, Method, Skipped as SkippedMember}
-use Rattle.slicc_ast.specs.Outline.{Outline, node, Parts, none, token, part, provided, is_allowed, are_allowed}
-use Rattle.slicc_ast.specs.Names.{sign, balanced_list}
-use Rattle.slicc_ast.specs.Declarations.{pair, pair_list, formal, more_formals, formal_list, is_skipped, skipped, symbol_list, enumeration, state_list, states, member, member_list, structure}
+use Rattle.slicc_ast.specs.Outline.{token}
+use Rattle.slicc_ast.specs.Prelude.{Outline, node, Parts, none, part, provided, is_allowed, are_allowed, balanced_list, pair_list, more_formals, formal_list, is_skipped, skipped, symbol_list, state_list, member_list}
+use Rattle.slicc_ast.specs.Names.{sign}
+use Rattle.slicc_ast.specs.Declarations.{pair, formal, enumeration, states, member, structure}
 use Rattle.slicc_ast.specs.declared.tree.token.Sign.TheVariants.{CloseBrace}
 use Rattle.slicc_files.proofs.Bare.{bare, bare_in}
 use Rattle.slicc_files.proofs.Places.{span_of, parts_of, nodes_in, nodes_of, is_token, beyond, past_token, first, second, third, fourth, fifth, text_of}
@@ -48,19 +49,19 @@ value_in (part outline parts) = NameValue (name_from outline)
 value_in (provided condition parts) = QuotedValue []
 
 abbrev pair_in : Span → Parts → Pair
-pair_in span none = BarePair [] span
-pair_in span (token kind parts) = BarePair (text_of kind) span
-pair_in span (part outline parts) = NamedPair (name_from outline) (value_in (beyond parts)) span
-pair_in span (provided condition parts) = BarePair [] span
+pair_in span none = Bare [] span
+pair_in span (token kind parts) = Bare (text_of kind) span
+pair_in span (part outline parts) = Named (name_from outline) (value_in (beyond parts)) span
+pair_in span (provided condition parts) = Bare [] span
 
 abbrev pair_from : Outline → Pair
 pair_from (node span parts) = pair_in span parts
 
 pair_again : (p : Pair) → pair_from (bare (pair p)) ≡ p
-pair_again (NamedPair key (QuotedValue text) span) = refl
-pair_again (NamedPair key (NumberValue n) span) = refl
-pair_again (NamedPair key (NameValue n) span) = refl
-pair_again (BarePair text span) = refl
+pair_again (Named key (QuotedValue text) span) = refl
+pair_again (Named key (NumberValue n) span) = refl
+pair_again (Named key (NameValue n) span) = refl
+pair_again (Bare text span) = refl
 
 abbrev pair_items : List Outline → List Pair
 pair_items [] = []

@@ -5,18 +5,18 @@ use Rattle.std.proofs.Math.Path.{ap₂}
 use Rattle.std.proofs.lemmas.Bool.{and_parts, false≢true}
 use Rattle.slicc_ast.specs.declared.tree.span.Span.{Span}
 use Rattle.slicc_ast.specs.declared.tree.token.TokenKind.{TokenKind}
-use Rattle.slicc_ast.specs.declared.tree.token.TokenKind.TheVariants.{Name as Named, Number as Numeral, Quoted, Word, Sign, End}
+use Rattle.slicc_ast.specs.declared.tree.token.TokenKind.TheVariants.{Name, Number as Numeral, Quoted, Word, Sign, End}
 use Rattle.slicc_ast.specs.declared.tree.token.Word.{Word as Reserved}
-use Rattle.slicc_ast.specs.declared.tree.token.Word.TheVariants.{True as TrueWord, False as FalseWord, New as NewWord, IsValid as IsValidWord, IsInvalid as IsInvalidWord, StaticCast}
+use Rattle.slicc_ast.specs.declared.tree.token.Word.TheVariants.{True as TrueWord, False as FalseWord, New as NewWord, IsValid, IsInvalid, StaticCast}
 use Rattle.slicc_ast.specs.declared.tree.token.Sign.{Sign as SignKind}
-use Rattle.slicc_ast.specs.declared.tree.token.Sign.TheVariants.{OpenParenthesis, Colon, Equal as EqualSign, Unequal as UnequalSign, Less as LessSign, Greater as GreaterSign, LessOrEqual as LessOrEqualSign, GreaterOrEqual as GreaterOrEqualSign, Plus as PlusSign, Minus as MinusSign, Star, Not as NotSign, And as AndSign}
+use Rattle.slicc_ast.specs.declared.tree.token.Sign.TheVariants.{OpenParenthesis, Colon, Equal as EqualSign, Unequal as UnequalSign, Less as LessSign, Greater as GreaterSign, LessOrEqual as LessOrEqualSign, GreaterOrEqual as GreaterOrEqualSign, Plus as PlusSign, Minus as MinusSign, Star, Not, And as AndSign}
 use Rattle.slicc_ast.specs.declared.tree.expression.Operator.{Operator}
 use Rattle.slicc_ast.specs.declared.tree.expression.Operator.TheVariants.{Or, And, Equal, Unequal, Less, Greater, LessOrEqual, GreaterOrEqual, Plus, Minus, Times}
 use Rattle.slicc_ast.specs.declared.tree.expression.Suffix.{Suffix, Field, Method', Index}
 use Rattle.slicc_ast.specs.declared.tree.expression.Expr.{Expr, Number, True, False, Nothing, Variable, Member, Call', New, Row_of-Expr, end_of-Expr, more_of-Expr, Row_of-Operand, end_of-Operand, more_of-Operand, Row_of-Suffix, end_of-Suffix, more_of-Suffix}
-use Rattle.slicc_ast.specs.Boxes.{Operation', Not', Negate', Postfix', IsValid', IsInvalid', Cast', Group'}
-use Rattle.slicc_ast.specs.Outline.{Outline, node, Parts, none, token, part, provided, no_span, is_allowed, are_allowed}
-use Rattle.slicc_ast.specs.Expressions.{operator_sign, row_level, has_suffix, expr, operand_row, suffix, suffix_row, args_row, more_args_row}
+use Rattle.slicc_ast.specs.Prelude.{Operation', Not', Negate', Postfix', IsValid', IsInvalid', Cast', Group', Outline, node, Parts, none, part, provided, no_span, is_allowed, are_allowed, operator_sign, row_level, has_suffix, expr, operand_row, suffix_row, args_row, more_args_row}
+use Rattle.slicc_ast.specs.Outline.{token}
+use Rattle.slicc_ast.specs.Expressions.{suffix}
 use Rattle.slicc_files.proofs.Bare.{bare, bare_in}
 use Rattle.slicc_files.proofs.Rows.{ExprRow, listed_exprs, expr_row, expr_row_again, OperandRow, listed_operands, operands_row, operands_row_again, SuffixRow, listed_suffixes, suffixes_row, suffixes_row_again}
 use Rattle.slicc_files.proofs.Places.{span_of, text_of}
@@ -99,7 +99,7 @@ operator_by Star = Times
 operator_by _ = Or
 
 abbrev operator_of : TokenKind → Operator
-operator_of (Named text) = Or
+operator_of (Name text) = Or
 operator_of (Numeral n) = Or
 operator_of (Quoted text) = Or
 operator_of (Word reserved) = Or
@@ -127,7 +127,7 @@ joined_by span o made left OpenParenthesis =
 joined_by span o made left which = operation_made span made (with_token (Sign which) left)
 
 abbrev joined : Span → Outline → Made → Pieces → TokenKind → Expr
-joined span o made left (Named text) = Nothing span
+joined span o made left (Name text) = Nothing span
 joined span o made left (Numeral n) = Nothing span
 joined span o made left (Quoted text) = Nothing span
 joined span o made left (Word reserved) = Nothing span
@@ -151,18 +151,18 @@ abbrev word_begun : Span → Pieces → Reserved → Expr
 word_begun span left TrueWord = True span
 word_begun span left FalseWord = False span
 word_begun span left NewWord = New (name_from (node_in left)) span
-word_begun span left IsValidWord = IsValid' (expression_in left) span
-word_begun span left IsInvalidWord = IsInvalid' (expression_in left) span
+word_begun span left IsValid = IsValid' (expression_in left) span
+word_begun span left IsInvalid = IsInvalid' (expression_in left) span
 word_begun span left StaticCast = Cast' (type_from (node_in left)) (mode_in (behind_node left)) (expression_in (behind_node left)) span
 word_begun span left _ = Nothing span
 
 abbrev sign_begun : Span → Pieces → SignKind → Expr
-sign_begun span left NotSign = Not' (expression_in left) span
+sign_begun span left Not = Not' (expression_in left) span
 sign_begun span left MinusSign = Negate' (expression_in left) span
 sign_begun span left _ = Group' (expression_in left) span
 
 abbrev token_begun : Span → Pieces → TokenKind → Expr
-token_begun span left (Named text) = Variable (record { text = text; span = span })
+token_begun span left (Name text) = Variable (record { text = text; span = span })
 token_begun span left (Numeral n) = Number n span
 token_begun span left (Quoted text) = Nothing span
 token_begun span left (Word reserved) = word_begun span left reserved

@@ -22,7 +22,7 @@ use Rattle.slicc_ast.specs.declared.tree.declaration.Function.TheVariants.{Plain
 use Rattle.slicc_ast.specs.declared.tree.machine.Machine.{Machine}
 use Rattle.slicc_ast.specs.declared.tree.machine.Parameter.{Parameter}
 use Rattle.slicc_ast.specs.declared.tree.machine.Literal.{Literal}
-use Rattle.slicc_ast.specs.declared.tree.machine.Literal.TheVariants.{Number as NumberLiteral, Minus as MinusLiteral, Quoted as QuotedLiteral, True as TrueLiteral, False as FalseLiteral}
+use Rattle.slicc_ast.specs.declared.tree.machine.Literal.TheVariants.{Number as NumberLiteral, Minus, Quoted as QuotedLiteral, True as TrueLiteral, False}
 use Rattle.slicc_ast.specs.declared.tree.machine.Decl.{Decl}
 use Rattle.slicc_ast.specs.declared.tree.machine.Decl.TheVariants.{States, Enumeration, Structure, OutPort as OutPortDecl, InPort as InPortDecl, Action as ActionDecl, Transition as TransitionDecl, Function as FunctionDecl, Object as ObjectDecl}
 use Rattle.slicc_ast.specs.declared.tree.machine.OutPort.{OutPort}
@@ -32,11 +32,11 @@ use Rattle.slicc_ast.specs.declared.tree.machine.Transition.{Transition}
 use Rattle.slicc_ast.specs.declared.tree.machine.Names.{Names}
 use Rattle.slicc_ast.specs.declared.tree.machine.Names.TheVariants.{One, Several}
 use Rattle.slicc_ast.specs.declared.tree.machine.Object.{Object}
-use Rattle.slicc_ast.specs.Outline.{Outline, node, Parts, none, token, part, provided, is_allowed, are_allowed}
+use Rattle.slicc_ast.specs.Outline.{token}
+use Rattle.slicc_ast.specs.Prelude.{Outline, node, Parts, none, part, provided, is_allowed, are_allowed, pair_list, is_skipped, skipped, block_outline, more_names, name_list, next_parts, action_list, function_body, function, object, decl, parameter_list, decl_list}
 use Rattle.slicc_ast.specs.Names.{sign, name}
-use Rattle.slicc_ast.specs.Declarations.{pairs, pair_list, is_skipped, skipped}
-use Rattle.slicc_ast.specs.Statements.{block_outline}
-use Rattle.slicc_ast.specs.Machines.{out_port, in_port, action, more_names, name_list, names, next_parts, action_list, transition, function_body, function, object, decl, literal, parameter, parameter_list, decl_list, machine}
+use Rattle.slicc_ast.specs.Declarations.{pairs}
+use Rattle.slicc_ast.specs.Machines.{out_port, in_port, action, names, transition, literal, parameter, machine}
 use Rattle.slicc_files.proofs.Bare.{bare, bare_in}
 use Rattle.slicc_files.proofs.Places.{span_of, parts_of, nodes_in, nodes_of, is_token, beyond, past_token, first, others, second, third, fourth, fifth, text_in}
 use Rattle.slicc_files.proofs.FromNames.{name_from, type_from}
@@ -276,46 +276,46 @@ decls_again (d ∷ ds) allowed =
 
 -- literals
 abbrev minus_by : Span → TokenKind → Literal
-minus_by span (Named text) = FalseLiteral span
-minus_by span (Number n) = MinusLiteral n span
-minus_by span (Quoted text) = FalseLiteral span
-minus_by span (Word reserved) = FalseLiteral span
-minus_by span (Sign which) = FalseLiteral span
-minus_by span End = FalseLiteral span
+minus_by span (Named text) = False span
+minus_by span (Number n) = Minus n span
+minus_by span (Quoted text) = False span
+minus_by span (Word reserved) = False span
+minus_by span (Sign which) = False span
+minus_by span End = False span
 
 abbrev minus_in : Span → Parts → Literal
-minus_in span none = FalseLiteral span
+minus_in span none = False span
 minus_in span (token kind parts) = minus_by span kind
-minus_in span (part outline parts) = FalseLiteral span
-minus_in span (provided condition parts) = FalseLiteral span
+minus_in span (part outline parts) = False span
+minus_in span (provided condition parts) = False span
 
 abbrev truth : Span → Reserved → Literal
 truth span TrueWord = TrueLiteral span
-truth span _ = FalseLiteral span
+truth span _ = False span
 
 abbrev literal_by : Span → Parts → TokenKind → Literal
-literal_by span parts (Named text) = FalseLiteral span
+literal_by span parts (Named text) = False span
 literal_by span parts (Number n) = NumberLiteral n span
 literal_by span parts (Quoted text) = QuotedLiteral text span
 literal_by span parts (Word reserved) = truth span reserved
 literal_by span parts (Sign which) = minus_in span parts
-literal_by span parts End = FalseLiteral span
+literal_by span parts End = False span
 
 abbrev literal_in : Span → Parts → Literal
-literal_in span none = FalseLiteral span
+literal_in span none = False span
 literal_in span (token kind parts) = literal_by span parts kind
-literal_in span (part outline parts) = FalseLiteral span
-literal_in span (provided condition parts) = FalseLiteral span
+literal_in span (part outline parts) = False span
+literal_in span (provided condition parts) = False span
 
 abbrev literal_from : Outline → Literal
 literal_from o = literal_in (span_of o) (parts_of o)
 
 literal_again : (l : Literal) → literal_from (bare (literal l)) ≡ l
 literal_again (NumberLiteral n span) = refl
-literal_again (MinusLiteral n span) = refl
+literal_again (Minus n span) = refl
 literal_again (QuotedLiteral text span) = refl
 literal_again (TrueLiteral span) = refl
-literal_again (FalseLiteral span) = refl
+literal_again (False span) = refl
 
 -- parameters
 abbrev parameter_by : Span → TypeName → Bool → Name → List Outline → Bool → Parameter

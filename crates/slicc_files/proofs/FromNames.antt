@@ -1,7 +1,7 @@
 -- Names from their outlines.
 use Rattle.slicc_ast.specs.declared.tree.name.Name.{Name}
 use Rattle.slicc_ast.specs.declared.tree.name.TypeName.{TypeName}
-use Rattle.slicc_ast.specs.Outline.{Outline}
+use Rattle.slicc_ast.specs.Prelude.{Outline}
 use Rattle.slicc_files.proofs.Places.{span_of, parts_of, text_in}
 
 abbrev pub name_from : Outline → Name

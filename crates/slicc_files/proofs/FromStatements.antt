@@ -7,9 +7,9 @@ use mathlib.Core.Former.{this, arity}
 use Rattle.ruby_base.specs.formers.seq.Seq as seq
 use Rattle.slicc_ast.specs.declared.tree.span.Span.{Span}
 use Rattle.slicc_ast.specs.declared.tree.token.TokenKind.{TokenKind}
-use Rattle.slicc_ast.specs.declared.tree.token.TokenKind.TheVariants.{Name as Named, Number as Numeral, Quoted, Word, Sign, End}
+use Rattle.slicc_ast.specs.declared.tree.token.TokenKind.TheVariants.{Name, Number, Quoted, Word, Sign, End}
 use Rattle.slicc_ast.specs.declared.tree.token.Word.{Word as Reserved}
-use Rattle.slicc_ast.specs.declared.tree.token.Word.TheVariants.{Peek as PeekWord, Enqueue as EnqueueWord, StallAndWait as StallAndWaitWord, CheckAllocate as CheckAllocateWord, If as IfWord, Return as ReturnWord, Error as ErrorWord, Assert as AssertWord, Dprintf as DprintfWord, AppendTransitionComment as CommentWord}
+use Rattle.slicc_ast.specs.declared.tree.token.Word.TheVariants.{Peek, Enqueue, StallAndWait as StallAndWaitWord, CheckAllocate as CheckAllocateWord, If as IfWord, Return as ReturnWord, Error as ErrorWord, Assert as AssertWord, Dprintf as DprintfWord, AppendTransitionComment as CommentWord}
 use Rattle.slicc_ast.specs.declared.tree.balanced.Balanced.{Balanced}
 use Rattle.slicc_ast.specs.declared.tree.declaration.Pairs.{Pairs}
 use Rattle.slicc_ast.specs.declared.tree.expression.Expr.{Expr}
@@ -17,8 +17,8 @@ use Rattle.slicc_ast.specs.declared.tree.statement.PrintWord.TheVariants.{Dprint
 use Rattle.slicc_ast.specs.declared.tree.statement.Block.{Block}
 use Rattle.slicc_ast.specs.declared.tree.statement.If.{If, If', Held-If-otherwise, None', Some', Row_of-ElseIf, end_of-ElseIf, more_of-ElseIf}
 use Rattle.slicc_ast.specs.declared.tree.statement.Stmt.{Stmt, Declare, Assign, Evaluate, Return, If as IfStmt, Peek', Enqueue', StallAndWait, CheckAllocate, Error, Assert, Print, Row_of-Stmt, end_of-Stmt, more_of-Stmt}
-use Rattle.slicc_ast.specs.Outline.{Outline, node, Parts, none, token, part, provided, no_span, is_allowed, are_allowed}
-use Rattle.slicc_ast.specs.Statements.{stmt, if_outline, else_if_row, else_part, stmt_row, stmt_list, block_end, block_outline}
+use Rattle.slicc_ast.specs.Outline.{token}
+use Rattle.slicc_ast.specs.Prelude.{Outline, node, Parts, none, part, provided, no_span, is_allowed, are_allowed, stmt, if_outline, else_if_row, else_part, stmt_row, stmt_list, block_end, block_outline}
 use Rattle.slicc_files.proofs.Bare.{bare, bare_in}
 use Rattle.slicc_files.proofs.Rows.{StmtRow, listed_stmts, stmts_row, stmts_row_again, ElseIfRow, Branch, listed_branches, branches_row, branches_row_again}
 use Rattle.slicc_files.proofs.Places.{span_of, text_of}
@@ -116,8 +116,8 @@ second_text _ = []
 abbrev word_begun : Span → Pieces → Reserved → Stmt
 word_begun span left ReturnWord = Return (optional_in left) span
 word_begun span left IfWord = IfStmt (if_begun span left)
-word_begun span left PeekWord = peek_begun span left
-word_begun span left EnqueueWord = enqueue_by span left (behind_node (behind_node (behind_node left)))
+word_begun span left Peek = peek_begun span left
+word_begun span left Enqueue = enqueue_by span left (behind_node (behind_node (behind_node left)))
 word_begun span left StallAndWaitWord = StallAndWait (name_from (node_in left)) (expr_from (node_in (behind_node left))) span
 word_begun span left CheckAllocateWord = CheckAllocate (name_from (node_in left)) span
 word_begun span left ErrorWord = Error (second_text left) span
@@ -127,8 +127,8 @@ word_begun span left CommentWord = Print AppendTransitionComment (balanced_from 
 word_begun span left _ = Return None span
 
 abbrev token_begun : Span → Pieces → TokenKind → Stmt
-token_begun span left (Named text) = Return None span
-token_begun span left (Numeral n) = Return None span
+token_begun span left (Name text) = Return None span
+token_begun span left (Number n) = Return None span
 token_begun span left (Quoted text) = Return None span
 token_begun span left (Word reserved) = word_begun span left reserved
 token_begun span left (Sign which) = Return None span

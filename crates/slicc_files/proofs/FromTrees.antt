@@ -4,7 +4,7 @@ use Rattle.std.proofs.Math.Path.{ap₂}
 use Rattle.std.proofs.lemmas.Bool.{and_parts}
 use Rattle.slicc_ast.specs.declared.tree.span.Span.{Span}
 use Rattle.slicc_ast.specs.declared.tree.token.TokenKind.{TokenKind}
-use Rattle.slicc_ast.specs.declared.tree.token.TokenKind.TheVariants.{Name as Named, Number, Quoted, Word, Sign, End}
+use Rattle.slicc_ast.specs.declared.tree.token.TokenKind.TheVariants.{Name, Number, Quoted, Word, Sign, End}
 use Rattle.slicc_ast.specs.declared.tree.token.Word.{Word as Reserved}
 use Rattle.slicc_ast.specs.declared.tree.token.Word.TheVariants.{Enumeration as EnumerationWord, Structure as StructureWord, Machine as MachineWord}
 use Rattle.slicc_ast.specs.declared.tree.declaration.Enumeration.{Enumeration as EnumerationRecord}
@@ -13,8 +13,9 @@ use Rattle.slicc_ast.specs.declared.tree.machine.Machine.{Machine as MachineReco
 use Rattle.slicc_ast.specs.declared.tree.item.Tree.{Tree}
 use Rattle.slicc_ast.specs.declared.tree.item.Item.{Item}
 use Rattle.slicc_ast.specs.declared.tree.item.Item.TheVariants.{Include, Enumeration, Structure, Machine}
-use Rattle.slicc_ast.specs.Outline.{Outline, Parts, none, token, part, provided, is_allowed, are_allowed}
-use Rattle.slicc_ast.specs.Trees.{item, item_list, protocol_parts, tree}
+use Rattle.slicc_ast.specs.Outline.{token}
+use Rattle.slicc_ast.specs.Prelude.{Outline, Parts, none, part, provided, is_allowed, are_allowed, item_list, protocol_parts, tree}
+use Rattle.slicc_ast.specs.Trees.{item}
 use Rattle.slicc_files.proofs.Bare.{bare, bare_in}
 use Rattle.slicc_files.proofs.Places.{span_of, parts_of, nodes_in, is_token, beyond, text_in}
 use Rattle.slicc_files.proofs.FromDeclarations.{enumeration_from, enumeration_again, structure_from, structure_again}
@@ -28,7 +29,7 @@ item_by_word o parts MachineWord = Machine (machine_from o)
 item_by_word o parts _ = Include (text_in parts) (span_of o)
 
 abbrev item_by_token : Outline → Parts → TokenKind → Item
-item_by_token o parts (Named text) = Include [] (span_of o)
+item_by_token o parts (Name text) = Include [] (span_of o)
 item_by_token o parts (Number n) = Include [] (span_of o)
 item_by_token o parts (Quoted text) = Include [] (span_of o)
 item_by_token o parts (Word reserved) = item_by_word o parts reserved

@@ -3,7 +3,7 @@ use Rattle.std.proofs.Common.{◌≡◌, ◌≢◌, ◌<◌, ◌≤◌, ◌++◌
 use Rattle.std.proofs.lemmas.Bool.{false≢true}
 use Rattle.std.proofs.lemmas.Option.{same_Some}
 use Rattle.std.specs.List.{slice_get}
-use Rattle.ruby_outside.specs.Files.{Files as LibraryFiles}
+use Rattle.ruby_outside.specs.Prelude.{Files as LibraryFiles}
 use Rattle.ruby_outside.specs.declared.library.Got.{Got}
 use Rattle.ruby_outside.specs.declared.library.Got.TheVariants as got
 use Rattle.slicc_ast.specs.declared.tree.item.Tree.{Tree}
@@ -12,10 +12,7 @@ use Rattle.slicc_files.specs.declared.gathered.Gathered.TheVariants.{Files, Refu
 use Rattle.slicc_files.specs.declared.gathered.Source.{Source}
 use Rattle.slicc_files.specs.declared.reading.Broken.{Broken}
 use Rattle.slicc_files.specs.declared.state.Wanted.{Wanted}
-use Rattle.slicc_files.specs.Gathering.{IsGathered, IsGatheredFrom, IsGatheredOver, IsNext, is_seen, most_files, read_of, refusal, source_of, wanted_of}
-use Rattle.slicc_files.specs.Gathering.IsGathered.{finished, passed_by, one_too_many, went_on, refused, absent, too_large, too_long, failed, no_memory, no_memory_for}
-use Rattle.slicc_files.specs.Reads.{Read, AreGiven, file_limit, given}
-use Rattle.slicc_files.specs.Texts.{IsReadText, code_of}
+use Rattle.slicc_files.specs.Prelude.{IsGathered, IsGatheredFrom, IsGatheredOver, IsNext, is_seen, most_files, read_of, refusal, source_of, wanted_of, finished, passed_by, one_too_many, went_on, refused, absent, too_large, too_long, failed, no_memory, no_memory_for, Read, AreGiven, file_limit, given, IsReadText, code_of}
 use Rattle.slicc_files.proofs.OneText.{one_text}
 
 -- reads agree: one by one, as long as the names are the same, they gave the same

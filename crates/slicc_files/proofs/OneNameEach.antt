@@ -8,9 +8,7 @@ use Rattle.slicc_ast.specs.declared.tree.item.Tree.{Tree}
 use Rattle.slicc_files.specs.declared.gathered.Gathered.{Gathered}
 use Rattle.slicc_files.specs.declared.gathered.Source.{Source}
 use Rattle.slicc_files.specs.declared.state.Wanted.{Wanted}
-use Rattle.slicc_files.specs.Gathering.{IsGathered, IsGatheredFrom, is_seen, source_of}
-use Rattle.slicc_files.specs.Gathering.IsGathered.{finished, passed_by, one_too_many, went_on, refused, absent, too_large, too_long, failed, no_memory, no_memory_for}
-use Rattle.slicc_files.specs.Reads.{Read, AreOfOneNameEach}
+use Rattle.slicc_files.specs.Prelude.{IsGathered, IsGatheredFrom, is_seen, source_of, finished, passed_by, one_too_many, went_on, refused, absent, too_large, too_long, failed, no_memory, no_memory_for, Read, AreOfOneNameEach}
 
 -- none of these names was seen
 abbrev AreUnseen : List Source → List Read → Type 0

@@ -2,7 +2,8 @@
 -- same spans.
 use Rattle.std.proofs.Common.{◌≡◌, List, [], ◌∷◌, ◌++◌, length, take, drop, refl, sym, ap, ◌∙◌, arith, length-append}
 use Rattle.slicc_ast.specs.declared.tree.span.Span.{Span}
-use Rattle.slicc_ast.specs.Outline.{Outline, Parts, node, none, token, part, provided, kinds_in, kinds_of, shape_in, shape_of, spans_in, spans_of, covering, IsPlaced, ArePlaced}
+use Rattle.slicc_ast.specs.Outline.{token}
+use Rattle.slicc_ast.specs.Prelude.{Outline, Parts, node, none, part, provided, kinds_in, kinds_of, shape_in, shape_of, spans_in, spans_of, covering, IsPlaced, ArePlaced}
 
 -- a shape has the tokens of its outline
 mutual

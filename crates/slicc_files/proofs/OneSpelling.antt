@@ -3,10 +3,9 @@ use Rattle.std.proofs.Common.{◌≡◌, List, ◌∷◌, sym, subst, ap, ◌∙
 use Rattle.std.proofs.lemmas.List.{same_from_push}
 use Rattle.slicc_ast.specs.declared.tree.item.Tree.{Tree}
 use Rattle.slicc_ast.specs.declared.tree.span.Span.{Span}
-use Rattle.slicc_ast.specs.Outline.{ArePlaced, covering, shape_in, spans_in, spans_of}
-use Rattle.slicc_ast.specs.Trees.{tree, tree_parts}
+use Rattle.slicc_ast.specs.Prelude.{ArePlaced, covering, shape_in, spans_in, spans_of, tree, tree_parts}
 use Rattle.slicc_lex.specs.declared.token.Token.{Token}
-use Rattle.slicc_lex.specs.Spells.{Spells, token_spans}
+use Rattle.slicc_lex.specs.Prelude.{Spells, token_spans}
 use Rattle.slicc_files.proofs.OneTree.{one_tree}
 use Rattle.slicc_lex.proofs.OneTree.{one_tree_spelled}
 use Rattle.slicc_files.proofs.OnePlacing.{same_spans_along}

@@ -3,26 +3,17 @@ use Rattle.std.proofs.Common.{◌≡◌, ◌+◌, ◌-◌, ◌++◌, ℕ, Some, 
 use Rattle.std.proofs.lemmas.List.{length-map}
 use Rattle.std.proofs.lemmas.Option.{same_Some}
 use Rattle.std.specs.List.{slice_get}
-use Rattle.slicc_ast.specs.Faults.{IsFirstFault, Stop}
-use Rattle.slicc_ast.specs.Faults.Stop.{Passed, Bad, Deep, Short}
-use Rattle.slicc_ast.specs.Grammar.Row.{done, form}
-use Rattle.slicc_ast.specs.Grammar.Rows.{end}
+use Rattle.slicc_ast.specs.Prelude.{IsFirstFault, Stop, Passed, Bad, Deep, Short, done, form, end, Form, kind_of, written}
 use Rattle.slicc_ast.proofs.Fronts.{one_stop}
 use Rattle.slicc_ast.specs.declared.tree.item.Tree.{Tree}
-use Rattle.slicc_ast.specs.Form.{Form}
-use Rattle.slicc_ast.specs.TokenKinds.{kind_of}
-use Rattle.slicc_ast.specs.Written.{written}
 use Rattle.slicc_lex.specs.declared.token.Token.{Token}
-use Rattle.slicc_lex.specs.Spells.{Spells}
-use Rattle.slicc_lex.specs.Syntax.{IsStoppedAt, symbols}
+use Rattle.slicc_lex.specs.Prelude.{Spells, IsStoppedAt, symbols}
 use Rattle.slicc_lex.proofs.OneReading.{one_reading}
 use Rattle.slicc_files.proofs.OneSpelling.{one_spelling}
 use Rattle.slicc_files.specs.declared.reading.Broken.{Broken}
 use Rattle.slicc_files.specs.declared.reading.TextRule.{TextRule}
 use Rattle.slicc_files.specs.declared.reading.TextRule.TheVariants.{BadToken, DeepNesting}
-use Rattle.slicc_files.specs.Texts.{IsReadText, IsReadTokens, broken_at, broken_by}
-use Rattle.slicc_files.specs.Texts.IsReadText.{has_no_tokens, has_tokens}
-use Rattle.slicc_files.specs.Texts.IsReadTokens.{spells_a_tree, has_a_bad_token, nests_too_deep}
+use Rattle.slicc_files.specs.Prelude.{IsReadText, IsReadTokens, broken_at, broken_by, has_no_tokens, has_tokens, spells_a_tree, has_a_bad_token, nests_too_deep}
 
 -- a rule is broken at the token that so many are left from on
 abbrev IsBrokenBefore : List Token → TextRule → ℕ → Broken → Type 0

@@ -1,8 +1,7 @@
 -- A tree is what its outline says: its shape and its spans make its outline without the conditions, and that the tree.
 use Rattle.std.proofs.Common.{◌≡◌, true, sym, ap, ◌∙◌}
 use Rattle.slicc_ast.specs.declared.tree.item.Tree.{Tree}
-use Rattle.slicc_ast.specs.Outline.{is_allowed, shape_of, spans_of}
-use Rattle.slicc_ast.specs.Trees.{tree}
+use Rattle.slicc_ast.specs.Prelude.{is_allowed, shape_of, spans_of, tree}
 use Rattle.slicc_files.proofs.Bare.{same_bare}
 use Rattle.slicc_files.proofs.FromTrees.{tree_from, tree_again}
 

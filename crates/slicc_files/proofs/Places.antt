@@ -3,7 +3,8 @@ use Rattle.std.specs.Prelude.{Bool, true, false, ℕ, List, [], ◌∷◌}
 use Rattle.slicc_ast.specs.declared.tree.span.Span.{Span}
 use Rattle.slicc_ast.specs.declared.tree.token.TokenKind.{TokenKind}
 use Rattle.slicc_ast.specs.declared.tree.token.TokenKind.TheVariants.{Name, Number, Quoted, Word, Sign, End}
-use Rattle.slicc_ast.specs.Outline.{Outline, node, Parts, none, token, part, provided, no_span}
+use Rattle.slicc_ast.specs.Outline.{token}
+use Rattle.slicc_ast.specs.Prelude.{Outline, node, Parts, none, part, provided, no_span}
 
 abbrev pub span_of : Outline → Span
 span_of (node span parts) = span

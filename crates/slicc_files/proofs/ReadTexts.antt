@@ -3,24 +3,16 @@ use Rattle.std.proofs.Common.{◌≡◌, ◌<◌, ◌+◌, ◌++◌, ◌⊎◌, 
 use Rattle.std.proofs.lemmas.List.{length-map}
 use Rattle.std.specs.List.{slice_get}
 use Rattle.slicc_ast.specs.declared.tree.item.Tree.{Tree}
-use Rattle.slicc_ast.specs.Faults.{IsFirstFault, Stop}
-use Rattle.slicc_ast.specs.Faults.Stop.{Bad, Deep}
-use Rattle.slicc_ast.specs.Faults.IsStop.{one_too_deep, whole, opener_too_deep, not_viable, too_short}
-use Rattle.slicc_ast.specs.Form.{Form}
-use Rattle.slicc_ast.specs.TokenKinds.{kind_of}
-use Rattle.slicc_ast.specs.Written.{written}
+use Rattle.slicc_ast.specs.Prelude.{IsFirstFault, Stop, Bad, Deep, one_too_deep, whole, opener_too_deep, not_viable, too_short, Form, kind_of, written}
 use Rattle.slicc_lex.specs.declared.fault.LexFault.{LexFault}
 use Rattle.slicc_lex.specs.declared.fault.LexFault.TheVariants.{NoMemory}
 use Rattle.slicc_lex.specs.declared.token.Token.{Token}
-use Rattle.slicc_lex.specs.Syntax.{IsBadAt, IsDeepAt, symbols}
-use Rattle.slicc_lex.specs.Tokens.{Reads}
+use Rattle.slicc_lex.specs.Prelude.{IsBadAt, IsDeepAt, symbols, Reads}
 use Rattle.slicc_files.specs.declared.reading.Broken.{Broken}
 use Rattle.slicc_files.specs.declared.reading.TextFault.{TextFault}
 use Rattle.slicc_files.specs.declared.reading.TextFault.TheVariants as fault
 use Rattle.slicc_files.specs.declared.reading.TextRule.TheVariants.{BadToken, DeepNesting}
-use Rattle.slicc_files.specs.Texts.{IsReadText, IsReadTokens, IsTextFault, IsTokensFault, broken_at, broken_by, fault_of}
-use Rattle.slicc_files.specs.Texts.IsReadText.{has_no_tokens, has_tokens}
-use Rattle.slicc_files.specs.Texts.IsReadTokens.{has_a_bad_token, nests_too_deep}
+use Rattle.slicc_files.specs.Prelude.{IsReadText, IsReadTokens, IsTextFault, IsTokensFault, broken_at, broken_by, fault_of, has_no_tokens, has_tokens, has_a_bad_token, nests_too_deep}
 
 -- a list stops at a token of it
 some_bad : (limit : ℕ) (tokens rest : List ℕ) (stop : Stop) → stop ≡ Bad rest → IsFirstFault written limit Form.file tokens stop → 0 < length rest

@@ -11,10 +11,7 @@ use Rattle.slicc_files.specs.declared.gathered.Gathered.TheVariants.{Files}
 use Rattle.slicc_files.specs.declared.gathered.Source.{Source}
 use Rattle.slicc_files.specs.declared.state.State.{State}
 use Rattle.slicc_files.specs.declared.state.Wanted.{Wanted}
-use Rattle.slicc_files.specs.Gathering.{IsGathered, IsNext, is_seen, most_files, read_of, source_of, wanted_of}
-use Rattle.slicc_files.specs.Gathering.IsGathered.{finished, went_on, refused, passed_by, one_too_many, no_memory, no_memory_for}
-use Rattle.slicc_files.specs.Reads.{Read, AreMade, file_limit}
-use Rattle.slicc_files.specs.Steps.{AreSound, EndsBy, GoesOnBy, IsRefusalOf, IsRefusedFor, IsShort, IsSound, IsTakenIn, Leads, in_order, steps_left}
+use Rattle.slicc_files.specs.Prelude.{IsGathered, IsNext, is_seen, most_files, read_of, source_of, wanted_of, finished, went_on, refused, passed_by, one_too_many, no_memory, no_memory_for, Read, AreMade, file_limit, AreSound, EndsBy, GoesOnBy, IsRefusalOf, IsRefusedFor, IsShort, IsSound, IsTakenIn, Leads, in_order, steps_left}
 use Rattle.slicc_files.proofs.TreeTexts.{few_wanted, sound_wanted}
 
 -- what is wanted after a file was taken in

@@ -1,12 +1,11 @@
 -- What a library that tells its files has given, read by read, and whether a read failed.
 use Rattle.std.proofs.Common.{◌≡◌, ◌≢◌, ◌≤◌, ◌⊎◌, inl, inr, ℕ, if◌then◌else◌, Bool, Option, Some, List, [], ◌∷◌, length, refl, sym, ◌∙◌, ap, subst, arith}
 use Rattle.std.proofs.lemmas.Bool.{le-ltb, lt-ltb}
-use Rattle.ruby_outside.specs.Faults.{Rose}
-use Rattle.ruby_outside.specs.Files.{Files, Reads, IsLawfulRead}
+use Rattle.ruby_outside.specs.Prelude.{Rose, Files, Reads, IsLawfulRead}
 use Rattle.ruby_outside.specs.declared.library.Got.{Got}
 use Rattle.ruby_outside.specs.declared.library.Got.TheVariants as got
 use Rattle.ruby_outside.proofs.Counts.{rose_before}
-use Rattle.slicc_files.specs.Reads.{Read, AreMade, MayBeGiven, file_limit, given, given_for}
+use Rattle.slicc_files.specs.Prelude.{Read, AreMade, MayBeGiven, file_limit, given, given_for}
 
 -- a read that neither failed nor wanted memory gave what the files give
 pub given_right : (files : Files) (name : List ℕ) (g : Got) → Reads files name file_limit g → g ≢ got.Failed → g ≢ got.NoMemory → g ≡ given files name

@@ -5,30 +5,23 @@ use Rattle.std.proofs.lemmas.List.{length-map, map-append}
 use Rattle.std.proofs.lemmas.List.Elements.{All-append, All-cons, All-nil}
 use Rattle.std.proofs.lemmas.Str.{IsUtf8-append, IsUtf8-from_ascii}
 use Rattle.std.specs.List.{flat_map, list_all}
-use Rattle.slicc_ast.specs.Bytes.{is_printable}
-use Rattle.slicc_ast.specs.Outline.{kinds_in, kinds_of}
-use Rattle.slicc_ast.specs.Trees.{item as item_of, item_list, protocol_parts, tree_parts}
+use Rattle.slicc_ast.specs.Prelude.{is_printable, kinds_in, kinds_of, item_list, protocol_parts, tree_parts}
+use Rattle.slicc_ast.specs.Trees.{item}
 use Rattle.slicc_ast.specs.declared.tree.item.Item.{Item}
 use Rattle.slicc_ast.specs.declared.tree.item.Item.TheVariants.{Include, Enumeration, Structure, Machine}
 use Rattle.slicc_ast.specs.declared.tree.item.Tree.{Tree}
 use Rattle.slicc_ast.specs.declared.tree.token.TokenKind.{TokenKind}
 use Rattle.slicc_lex.specs.declared.fault.LexFault.{LexFault}
 use Rattle.slicc_lex.specs.declared.token.Token.{Token}
-use Rattle.slicc_lex.specs.Spells.{Spells, token_kinds}
-use Rattle.slicc_lex.specs.Tokens.{IsWithinLimits, Reads, ends, skips, takes, stops, with_token}
+use Rattle.slicc_lex.specs.Prelude.{Spells, token_kinds, IsWithinLimits, Reads, ends, skips, takes, stops, with_token}
 use Rattle.slicc_lex.proofs.EndedTokens.{are_few}
 use Rattle.slicc_files.specs.declared.reading.Broken.{Broken}
 use Rattle.slicc_files.specs.declared.state.Wanted.{Wanted}
-use Rattle.slicc_files.specs.Gathering.{wanted_by, wanted_of}
-use Rattle.slicc_files.specs.Names.{interfaces}
-use Rattle.slicc_files.specs.Steps.{IsSound}
-use Rattle.slicc_files.specs.Texts.{IsReadText, IsReadTokens}
-use Rattle.slicc_files.specs.Texts.IsReadText.{has_no_tokens, has_tokens}
-use Rattle.slicc_files.specs.Texts.IsReadTokens.{spells_a_tree, has_a_bad_token, nests_too_deep}
+use Rattle.slicc_files.specs.Prelude.{wanted_by, wanted_of, interfaces, IsSound, IsReadText, IsReadTokens, has_no_tokens, has_tokens, spells_a_tree, has_a_bad_token, nests_too_deep}
 use Rattle.std.specs.Str.{bytes_eq}
 
 -- an item has a token
-some_kinds : (i : Item) → 1 ≤ length (kinds_of (item_of i))
+some_kinds : (i : Item) → 1 ≤ length (kinds_of (item i))
 some_kinds (Include text span) = omega arith
 some_kinds (Enumeration e) = omega arith
 some_kinds (Structure s) = omega arith
@@ -37,7 +30,7 @@ some_kinds (Machine m) = omega arith
 few_items : (items : List Item) → length items ≤ length (kinds_in (item_list items))
 few_items [] = omega arith
 few_items (i ∷ items) =
-    omega (arith, some_kinds i, few_items items, length-append (kinds_of (item_of i)) (kinds_in (item_list items)))
+    omega (arith, some_kinds i, few_items items, length-append (kinds_of (item i)) (kinds_in (item_list items)))
 
 few_behind : (name : Option (List ℕ)) (items : List Item) → length items ≤ length (kinds_in (protocol_parts name (item_list items)))
 few_behind None items = few_items items
@@ -86,7 +79,7 @@ abbrev AreQuotesPrintable : List Item → Type 0
 AreQuotesPrintable [] = Unit {0}
 AreQuotesPrintable (i ∷ items) = IsQuotePrintable i × AreQuotesPrintable items
 
-one_printable : (i : Item) → AreKindsWithin (kinds_of (item_of i)) → IsQuotePrintable i
+one_printable : (i : Item) → AreKindsWithin (kinds_of (item i)) → IsQuotePrintable i
 one_printable (Include text span) all = all.1.0
 one_printable (Enumeration e) all = tt
 one_printable (Structure s) all = tt
@@ -95,8 +88,8 @@ one_printable (Machine m) all = tt
 all_printable : (items : List Item) → AreKindsWithin (kinds_in (item_list items)) → AreQuotesPrintable items
 all_printable [] all = tt
 all_printable (i ∷ items) all = (
-  one_printable i (within_front (kinds_of (item_of i)) (kinds_in (item_list items)) all),
-  all_printable items (within_rest (kinds_of (item_of i)) (kinds_in (item_list items)) all),
+  one_printable i (within_front (kinds_of (item i)) (kinds_in (item_list items)) all),
+  all_printable items (within_rest (kinds_of (item i)) (kinds_in (item_list items)) all),
 )
 
 printable_behind : (name : Option (List ℕ)) (items : List Item) → AreKindsWithin (kinds_in (protocol_parts name (item_list items))) → AreQuotesPrintable items

@@ -5,7 +5,7 @@ use Rattle.std.specs.List.{flat_map}
 use Rattle.slicc_ast.specs.declared.tree.item.Item.{Item}
 use Rattle.slicc_ast.specs.declared.tree.item.Item.TheVariants.{Include, Enumeration, Structure, Machine}
 use Rattle.slicc_files.specs.declared.state.Wanted.{Wanted}
-use Rattle.slicc_files.specs.Gathering.{wanted_by}
+use Rattle.slicc_files.specs.Prelude.{wanted_by}
 
 one_or_none : (b : Bool) (w : Wanted) → reverse (if b then [] else w ∷ []) ≡ (if b then [] else w ∷ [])
 one_or_none true w = refl

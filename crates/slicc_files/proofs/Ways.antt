@@ -1,7 +1,7 @@
 -- What else is known of the reads that lead to an answer.
 use Rattle.std.proofs.Common.{◌≡◌, ◌≢◌, ◌≤◌, ◌⊎◌, inl, inr, ℕ, Result, Ok, Err, List, [], length, refl, All}
 use Rattle.std.proofs.lemmas.List.Elements.{All-nil, All-push}
-use Rattle.ruby_outside.specs.Files.{Files as LibraryFiles}
+use Rattle.ruby_outside.specs.Prelude.{Files}
 use Rattle.ruby_outside.specs.declared.library.Got.TheVariants as got
 use Rattle.slicc_ast.specs.declared.tree.item.Tree.{Tree}
 use Rattle.slicc_files.specs.declared.gathered.Gathered.{Gathered}
@@ -9,12 +9,7 @@ use Rattle.slicc_files.specs.declared.gathered.Gathered.TheVariants.{Absent, Too
 use Rattle.slicc_files.specs.declared.gathered.Source.{Source}
 use Rattle.slicc_files.specs.declared.reading.Broken.{Broken}
 use Rattle.slicc_files.specs.declared.state.Wanted.{Wanted}
-use Rattle.slicc_files.specs.Gathering.{AreAllowed, AreShort, IsAllowed, IsGathered, IsGatheredFrom, source_of}
-use Rattle.slicc_files.specs.Gathering.IsGathered.{finished, passed_by, one_too_many, went_on, refused, absent, too_large, too_long, failed, no_memory, no_memory_for}
-use Rattle.slicc_files.specs.Reads.{Read, AreGiven, MayBeGiven, file_limit}
-use Rattle.slicc_files.specs.Texts.{IsReadText}
-use Rattle.slicc_files.specs.Texts.IsReadText.{has_no_tokens, has_tokens}
-use Rattle.slicc_files.specs.Texts.IsReadTokens.{spells_a_tree, has_a_bad_token, nests_too_deep}
+use Rattle.slicc_files.specs.Prelude.{AreAllowed, AreShort, IsAllowed, IsGathered, IsGatheredFrom, source_of, finished, passed_by, one_too_many, went_on, refused, absent, too_large, too_long, failed, no_memory, no_memory_for, Read, AreGiven, MayBeGiven, file_limit, IsReadText, has_no_tokens, has_tokens, spells_a_tree, has_a_bad_token, nests_too_deep}
 use Rattle.slicc_files.proofs.Told.{HasFailed, given_right}
 
 -- reads that lead to an answer are a beginning of those that lead to any
@@ -39,7 +34,7 @@ pub record IsLastFault (reads : List Read) (g : Gathered) : Type 0 where
   pub read_failed : HasFailed reads
 
 pub given_or_failed : {folder : List ℕ} {seen : List Source} {trees : List Tree} {left : List Wanted} {reads : List Read} {g : Gathered}
-    → (files : LibraryFiles) → IsGathered folder seen trees left reads g → g ≢ NoMemory → MayBeGiven files reads → IsLastFault reads g ⊎ AreGiven files reads
+    → (files : Files) → IsGathered folder seen trees left reads g → g ≢ NoMemory → MayBeGiven files reads → IsLastFault reads g ⊎ AreGiven files reads
 given_or_failed files finished some may = inr tt
 given_or_failed files (passed_by is leads) some may = given_or_failed files leads some may
 given_or_failed files (one_too_many unseen many at) some may = inr tt

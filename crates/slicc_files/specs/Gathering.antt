@@ -6,15 +6,14 @@
 use Rattle.std.specs.Prelude.{◌≡◌, ◌<◌, ◌≤◌, ◌++◌, ℕ, All, Bool, true, false, IsTrue, None, Some, Ok, Err, List, [], ◌∷◌, length, codes, if◌then◌else◌}
 use Rattle.std.specs.List.{flat_map, list_any, slice_get}
 use Rattle.std.specs.Str.{bytes_eq}
-use Rattle.ruby_outside.specs.Files.{Files as LibraryFiles}
+use Rattle.ruby_outside.specs.Prelude.{Files as LibraryFiles}
 use Rattle.ruby_outside.specs.declared.library.Got.{Got}
 use Rattle.ruby_outside.specs.declared.library.Got.TheVariants as got
-use Rattle.slicc_ast.specs.Outline.{is_allowed}
-use Rattle.slicc_ast.specs.Trees.{tree}
+use Rattle.slicc_ast.specs.Prelude.{is_allowed, tree}
 use Rattle.slicc_ast.specs.declared.tree.item.Item.{Item}
 use Rattle.slicc_ast.specs.declared.tree.item.Item.TheVariants.{Include, Enumeration, Structure, Machine}
 use Rattle.slicc_ast.specs.declared.tree.item.Tree.{Tree}
-use Rattle.slicc_lex.specs.Places.{line_of, column_of}
+use Rattle.slicc_lex.specs.Prelude.{line_of, column_of}
 use Rattle.slicc_files.specs.Names.{folder_of, interfaces}
 use Rattle.slicc_files.specs.Reads.{Read, AreGiven, AreMade, file_limit}
 use Rattle.slicc_files.specs.Texts.{IsReadText, code_of}

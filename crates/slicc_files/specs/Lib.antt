@@ -3,3 +3,4 @@ pub mod Names
 pub mod Reads
 pub mod Steps
 pub mod Texts
+pub mod Prelude

@@ -4,16 +4,11 @@
 use Rattle.std.specs.Prelude.{◌≡◌, ℕ, Option, None, Some, Result, Ok, Err, List, [], codes}
 use Rattle.std.specs.List.{slice_get}
 use Rattle.slicc_ast.specs.declared.tree.item.Tree.{Tree}
-use Rattle.slicc_ast.specs.Faults.{IsFirstFault}
-use Rattle.slicc_ast.specs.Faults.Stop.{Passed}
-use Rattle.slicc_ast.specs.Form.{Form}
-use Rattle.slicc_ast.specs.Written.{written}
+use Rattle.slicc_ast.specs.Prelude.{IsFirstFault, Passed, Form, written}
 use Rattle.slicc_lex.specs.declared.fault.LexFault.{LexFault}
 use Rattle.slicc_lex.specs.declared.fault.LexFault.TheVariants as lexical
 use Rattle.slicc_lex.specs.declared.token.Token.{Token}
-use Rattle.slicc_lex.specs.Spells.{Spells}
-use Rattle.slicc_lex.specs.Syntax.{IsBadAt, IsDeepAt, nesting_limit, symbols}
-use Rattle.slicc_lex.specs.Tokens.{Reads}
+use Rattle.slicc_lex.specs.Prelude.{Spells, IsBadAt, IsDeepAt, nesting_limit, symbols, Reads}
 use Rattle.slicc_files.specs.declared.reading.Broken.{Broken}
 use Rattle.slicc_files.specs.declared.reading.TextFault.{TextFault}
 use Rattle.slicc_files.specs.declared.reading.TextFault.TheVariants as fault

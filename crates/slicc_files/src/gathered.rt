@@ -1,7 +1,7 @@
 //! What gathering a protocol's files may answer.
 ghost use Rattle.std.specs.Prelude.{◌≡◌, ◌≤◌, length, IfOk};
 ghost use Rattle.slicc_files.specs.Gathering.{refusal};
-ghost use Rattle.slicc_lex.specs.Places.{line_of as line_number, column_of as column_number};
+ghost use Rattle.slicc_lex.specs.Prelude.{line_of, column_of};
 
 use ruby_base::{NoMemory, Seq, Text};
 use slicc_ast::tree::Tree;
@@ -49,8 +49,8 @@ pub enum Gathered {
 /// The line and the column of a byte, each counted from 1, or of the end of the bytes where the offset is beyond it.
 pub fn place_in(bytes: &[u8], offset: u32) -> Place
     requires { length bytes.now ≤ 1048576 }
-    ensures line { result.line ≡ line_number bytes.now offset }
-    ensures column { result.column ≡ column_number bytes.now offset }
+    ensures line { result.line ≡ line_of bytes.now offset }
+    ensures column { result.column ≡ column_of bytes.now offset }
 {
     let end = bytes.len() as u32;
     if offset < end {

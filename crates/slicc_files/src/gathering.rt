@@ -1,14 +1,11 @@
 //! Gathering a protocol's files, one after the other.
 ghost use Rattle.std.specs.Prelude.{◌≡◌, ◌<◌, ◌≤◌, ◌∷◌, length, All, IfNone, IfOk, IsSomeAnd, IsUtf8, MatchOption, codes};
 ghost use Rattle.std.specs.List.{slice_get};
-ghost use Rattle.slicc_files.specs.Gathering.{AreAllowed, AreShort, IsGatheredBy, IsNext};
-ghost use Rattle.slicc_files.specs.Names.{folder_of};
-ghost use Rattle.slicc_files.specs.Steps.{AreSound, EndsBy, GoesOnBy, IsBegun, IsRefusalOf, IsRefusedFor, IsShort, IsSound, IsTakenIn, in_order, steps_left};
+ghost use Rattle.slicc_files.specs.Prelude.{AreAllowed, AreShort, IsGatheredBy, IsNext, folder_of, AreSound, EndsBy, GoesOnBy, IsBegun, IsRefusalOf, IsRefusedFor, IsShort, IsSound, IsTakenIn, in_order, steps_left};
 
 use crate::gathered::{Gathered, Source, refuse};
-use crate::names::folder;
 use crate::reading::{TextFault, code, read_text};
-use crate::state::{State, Wanted, is_seen};
+use crate::state::{State, Wanted, folder, is_seen};
 use ruby_base::{NoMemory, Seq, Text};
 use ruby_outside::{Got, Library};
 use std::alloc::Global;

@@ -5,14 +5,11 @@
 mod gathered;
 mod gathering;
 mod laws;
-mod names;
-mod one_tree;
 mod reading;
 mod state;
 
 pub use gathered::{Gathered, Refused, Source, place_in};
 pub use gathering::gather;
-pub use laws::{files_are_gathered_in_one_way, texts_are_read_in_one_way};
-pub use one_tree::outlines_have_one_tree;
+pub use laws::{files_are_gathered_in_one_way, outlines_have_one_tree, texts_are_read_in_one_way};
 pub use reading::{Broken, TextFault, TextRule, read_text};
 pub use slicc_lex::Place;

@@ -1,7 +1,7 @@
 //! One file's bytes as its tree.
 ghost use Rattle.std.specs.Prelude.{◌≡◌, ◌<◌, ◌≤◌, Ok, Some, length, IsSomeAnd, MatchResult};
 ghost use Rattle.std.specs.List.{slice_get};
-ghost use Rattle.slicc_parse.specs.Parsed.{AreEndedOnce};
+ghost use Rattle.slicc_parse.specs.Prelude.{AreEndedOnce};
 ghost use Rattle.slicc_files.specs.Texts.{IsReadText, IsReadTokens, IsTextFault, IsTokensFault, broken_at, broken_by, code_of, fault_of};
 
 use ruby_base::Seq;

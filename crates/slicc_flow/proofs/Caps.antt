@@ -4,8 +4,8 @@ use Rattle.std.proofs.lemmas.List.{map-append, take_more}
 use Rattle.std.proofs.lemmas.List.Sums.{sum_by-cons, sum_by_push}
 use Rattle.std.specs.List.{slice_get, sum_by}
 use Rattle.slicc_plan.specs.declared.part.Body.{Body}
-use Rattle.slicc_plan.specs.BodySizes.{function_size, size_or_none, size_with}
-use Rattle.slicc_flow.specs.Sizes.{AreSizes, capped, next_sizes}
+use Rattle.slicc_plan.specs.Prelude.{function_size, size_or_none, size_with}
+use Rattle.slicc_flow.specs.Prelude.{AreSizes, capped, next_sizes}
 
 two : (a x y s : ℕ) → y ≡ capped x → capped ((a + y) + s) ≡ capped ((a + x) + s)
 two a x y s is = omega arith

@@ -3,8 +3,8 @@ use Rattle.std.proofs.Common.{◌≡◌, ◌≤◌, ◌++◌, ◌∷◌, ℕ, Li
 use Rattle.std.proofs.lemmas.List.{map-append, take_all}
 use Rattle.slicc_ast.specs.declared.tree.machine.Decl.{Decl}
 use Rattle.slicc_plan.specs.declared.part.Body.{Body}
-use Rattle.slicc_plan.specs.Machines.{transition_in}
-use Rattle.slicc_flow.specs.Checks.{decl_checks, transition_checks}
+use Rattle.slicc_plan.specs.Prelude.{transition_in}
+use Rattle.slicc_flow.specs.Prelude.{decl_checks, transition_checks}
 
 checks_same : (names : List (List ℕ)) (actions : List Body) (ds : List Decl) → flat_map (decl_checks names actions) ds ≡ map (transition_checks names actions) (flat_map transition_in ds)
 checks_same names actions [] = refl

@@ -2,7 +2,8 @@
 use Rattle.std.proofs.Common.{◌≡◌, ◌+◌, ◌++◌, ◌||◌, ℕ, suc, Bool, true, false, not, cond, is_none, nat_lt, Option, Some, None, List, [], ◌∷◌, length, map, arith, refl, sym, ap, ◌∙◌}
 use Rattle.std.specs.List.{fold, list_any, prefix_len}
 use Rattle.std.specs.Str.{bytes_eq}
-use Rattle.slicc_plan.specs.BodyParts.{Written, names_of_written, number_in, with_written}
+use Rattle.slicc_plan.specs.BodyParts.{Written}
+use Rattle.slicc_plan.specs.Prelude.{names_of_written, number_in, with_written}
 
 found_go : (a b : ℕ) (v : Bool) (r : Bool) → nat_lt a b ≡ r → nat_lt (cond (not v) (1 + a) 0) (suc b) ≡ (v || r)
 found_go a b true r h = grind (arith)

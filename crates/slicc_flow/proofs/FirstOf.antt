@@ -6,12 +6,9 @@ use Rattle.slicc_ast.specs.declared.tree.span.Span.{Span}
 use Rattle.slicc_plan.specs.declared.broken.Broken.{Broken}
 use Rattle.slicc_plan.specs.declared.broken.Rule.TheVariants.{Changes}
 use Rattle.slicc_plan.specs.declared.part.Body.{Body}
-use Rattle.slicc_plan.specs.BodySizes.{function_size, large_at, size_with, whole_size}
-use Rattle.slicc_plan.specs.CallsBetween.{circle_at, circles_from, is_reached}
-use Rattle.slicc_plan.specs.Order.{first_after}
-use Rattle.slicc_plan.specs.ReadOnly.{call_of, changes_at, reached_changes, reading_calls}
+use Rattle.slicc_plan.specs.Prelude.{function_size, large_at, size_with, whole_size, circle_at, circles_from, is_reached, first_after, call_of, changes_at, reached_changes, reading_calls}
 use Rattle.slicc_plan.proofs.Firsts.{first_after-append, first_after-flat_map}
-use Rattle.slicc_flow.specs.Sizes.{AreSizes, capped}
+use Rattle.slicc_flow.specs.Prelude.{AreSizes, capped}
 use Rattle.slicc_flow.proofs.Caps.{capped_sum}
 
 abbrev pub changes_in : ℕ → List Span → List Broken

@@ -6,17 +6,14 @@ use Rattle.slicc_ast.specs.declared.tree.item.Tree.{Tree}
 use Rattle.slicc_ast.specs.declared.tree.machine.Machine.{Machine}
 use Rattle.slicc_ast.specs.declared.tree.machine.Transition.{Transition}
 use Rattle.slicc_plan.specs.declared.broken.Broken.{Broken}
-use Rattle.slicc_plan.specs.Declarations.{machines_of}
-use Rattle.slicc_plan.specs.Machines.{transitions_of}
-use Rattle.slicc_plan.specs.Order.{IsFirstBroken, IsFirstOf, first_after}
-use Rattle.slicc_plan.specs.BrokenDeclarations.{IsAnswered, breaks_one, refusal_of}
+use Rattle.slicc_plan.specs.Prelude.{machines_of, transitions_of, IsFirstBroken, IsFirstOf, first_after, IsAnswered, refusal_of, checks_of, needs, needs_of}
+use Rattle.slicc_plan.specs.BrokenDeclarations.{breaks_one}
 use Rattle.slicc_plan.specs.declared.refusal.Refusal.{Refusal}
-use Rattle.slicc_plan.specs.TableNeeds.{checks_of, need_of, needs, needs_of}
+use Rattle.slicc_plan.specs.TableNeeds.{need_of}
 use Rattle.slicc_plan.proofs.Firsts.{first_after_none}
 use Rattle.slicc_flow.specs.declared.machine.MachineBodies.{MachineBodies}
-use Rattle.slicc_flow.specs.Checks.{all_checks, count_in, count_of, machine_checks, of_transition}
-use Rattle.slicc_flow.specs.Flows.{IsFlowOf, IsFlowOrBroken, broken_flow}
-use Rattle.slicc_flow.specs.Machines.{all_bodies, bodies_in, checks_in, found_in}
+use Rattle.slicc_flow.specs.Prelude.{all_checks, count_in, count_of, machine_checks, of_transition, IsFlowOf, IsFlowOrBroken, broken_flow, all_bodies, bodies_in, checks_in}
+use Rattle.slicc_flow.specs.Machines.{found_in}
 use Rattle.slicc_flow.proofs.Judged.{found_same}
 
 transition_counted : (trees : List Tree) (m : Machine) (table : ℕ) (o : Option Transition) → count_of table (option_map (checks_of trees m) o) ≡ need_of trees m table o

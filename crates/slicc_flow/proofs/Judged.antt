@@ -5,23 +5,17 @@ use Rattle.std.proofs.lemmas.Grind.{flat_map-append}
 use Rattle.slicc_ast.specs.declared.tree.item.Tree.{Tree}
 use Rattle.slicc_ast.specs.declared.tree.machine.Machine.{Machine}
 use Rattle.slicc_plan.specs.declared.broken.Broken.{Broken}
-use Rattle.slicc_plan.specs.Declarations.{declared_in, everywhere, within, machines_of, wide_scopes}
-use Rattle.slicc_plan.specs.Machines.{in_each_from}
-use Rattle.slicc_plan.specs.Order.{first_after}
+use Rattle.slicc_plan.specs.Prelude.{declared_in, everywhere, within, machines_of, wide_scopes, in_each_from, first_after, Names, directory_names, is_table_type, name_of_type, names_of_written, table_names, with_name, written_functions, large_bodies, call_circles, is_built_in, type_in}
 use Rattle.slicc_plan.proofs.Firsts.{first_after-append}
 use Rattle.std.specs.List.{fold}
 use Rattle.slicc_plan.specs.declared.built_in.BuiltInType.TheVariants.{Directory}
-use Rattle.slicc_plan.specs.BodyParts.{Names, directory_names, is_table_type, name_of_type, names_in, names_of_written, table_names, with_name, written_functions}
-use Rattle.slicc_plan.specs.BodySizes.{large_bodies}
-use Rattle.slicc_plan.specs.CallsBetween.{call_circles}
-use Rattle.slicc_plan.specs.Types.{is_built_in, type_in}
-use Rattle.declared_types.specs.Scopes.{scope_at}
+use Rattle.slicc_plan.specs.BodyParts.{names_in}
+use Rattle.declared_types.specs.Prelude.{scope_at}
 use Rattle.slicc_flow.proofs.FirstOf.{first_of_three}
-use Rattle.slicc_flow.specs.Tables.{is_sort_name}
-use Rattle.slicc_flow.specs.declared.tables.TableSort.TheVariants.{Any, Directory as OfDirectory}
+use Rattle.slicc_flow.specs.Prelude.{is_sort_name, broken_flow, all_bodies, bodies_at, bodies_in, bodies_of_scope, bodies_with, changes_of, circles_of, each_from, large_of}
+use Rattle.slicc_flow.specs.declared.names.TableSort.TheVariants.{Any, Directory as OfDirectory}
 use Rattle.slicc_flow.specs.declared.machine.MachineBodies.{MachineBodies}
-use Rattle.slicc_flow.specs.Flows.{broken_flow}
-use Rattle.slicc_flow.specs.Machines.{all_bodies, bodies_at, bodies_in, bodies_of_scope, bodies_with, changes_of, circles_of, each_from, found_in, large_of}
+use Rattle.slicc_flow.specs.Machines.{found_in}
 
 pub each_same : (trees : List Tree) (found : ℕ → MachineBodies → List Broken) (number : ℕ) (ms : List Machine) → each_from found number (map (bodies_in trees) ms) ≡ in_each_from number (λ n m. found n (bodies_in trees m)) ms
 each_same trees found number [] = refl

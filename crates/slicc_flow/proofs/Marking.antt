@@ -7,9 +7,10 @@ use Rattle.std.proofs.Math.ListN.{set}
 use Rattle.std.proofs.lemmas.List.{take_more, get_or_append_left, length-set, length-append}
 use Rattle.std.specs.List.{slice_get}
 use Rattle.slicc_plan.specs.declared.part.Body.{Body}
-use Rattle.slicc_plan.specs.CallsBetween.{calls_at, calls_or_none, is_reached, reaches_within}
+use Rattle.slicc_plan.specs.Prelude.{calls_at, calls_or_none, is_reached, reaches_within}
 use Rattle.slicc_flow.specs.declared.reach.Found.{Found}
-use Rattle.slicc_flow.specs.Marks.{calls_of_found, expanded, found_in, is_unseen, next_calls, none_found, with_call, with_calls}
+use Rattle.slicc_flow.specs.Marks.{found_in}
+use Rattle.slicc_flow.specs.Prelude.{calls_of_found, expanded, is_unseen, next_calls, none_found, with_call, with_calls}
 use Rattle.slicc_flow.proofs.Reaching.{any_in, any_more, either, has, has_first, has_index, has_last, has_later, has_left, has_more, none_within, or_left, within_le, within_then}
 
 -- how many aren't found yet

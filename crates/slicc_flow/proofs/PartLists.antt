@@ -18,8 +18,8 @@ use Rattle.slicc_ast.specs.declared.tree.statement.Stmt.TheViews.{the_lemmas}
 use Rattle.slicc_ast.specs.declared.tree.statement.If.{If, If', None', Some', Row_of-ElseIf, end_of-ElseIf, more_of-ElseIf, items-the_row-ElseIf, out-If}
 use Rattle.slicc_plan.specs.declared.part.Part.{Part}
 use Rattle.slicc_plan.specs.declared.part.Part.TheVariants.{Plain}
-use Rattle.slicc_plan.specs.BodyParts.{Names, arguments_parts, block_parts, expr_parts, if_parts, operands_parts, optional_parts, others_parts, row_parts, stmt_parts, suffix_parts, suffixes_parts}
-use Rattle.slicc_flow.specs.Lists.{else_if_parts, operand_parts, receiver_at, suffix_list_parts}
+use Rattle.slicc_plan.specs.Prelude.{Names, arguments_parts, block_parts, expr_parts, if_parts, operands_parts, optional_parts, others_parts, row_parts, stmt_parts, suffix_parts, suffixes_parts}
+use Rattle.slicc_flow.specs.Prelude.{else_if_parts, operand_parts, receiver_at, suffix_list_parts}
 
 pub argument_rows : (names : Names) (n : _) (row : Row_of-Expr n) → arguments_parts names row ≡ flat_map (expr_parts names) (items-the_row-Expr n row)
 argument_rows names n end_of-Expr = refl

@@ -10,8 +10,8 @@ use Rattle.slicc_ast.specs.declared.tree.expression.Expr.TheViews as views
 use Rattle.slicc_ast.specs.declared.tree.expression.Expr.TheViews.{the_lemmas}
 use Rattle.slicc_ast.proofs.Boxes.{Not_is, Negate_is, IsValid_is, IsInvalid_is, Cast_is, Group_is, Operation_is, Postfix_is}
 use Rattle.slicc_plan.specs.declared.part.Part.TheVariants.{Plain}
-use Rattle.slicc_plan.specs.BodyParts.{Names, expr_parts, name_in}
-use Rattle.slicc_flow.specs.Lists.{operand_parts, suffix_list_parts}
+use Rattle.slicc_plan.specs.Prelude.{Names, expr_parts, name_in}
+use Rattle.slicc_flow.specs.Prelude.{operand_parts, suffix_list_parts}
 use Rattle.slicc_flow.proofs.PartLists.{operand_rows, suffix_rows}
 
 pub name_in_Group : (e : Expr) (span : Span) → name_in (views.Group e span) ≡ name_in e

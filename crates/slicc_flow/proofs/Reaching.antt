@@ -3,7 +3,7 @@ use Rattle.std.proofs.Common.{◌≡◌, ◌+◌, ◌<◌, ◌≤◌, ◌==◌, 
 use Rattle.std.proofs.lemmas.Bool.{eqb-true, eq-eqb}
 use Rattle.std.specs.List.{list_any}
 use Rattle.slicc_plan.specs.declared.part.Body.{Body}
-use Rattle.slicc_plan.specs.CallsBetween.{calls_at, reaches_within}
+use Rattle.slicc_plan.specs.Prelude.{calls_at, reaches_within}
 
 -- the number is among these
 abbrev pub has : ℕ → List ℕ → Bool

@@ -4,7 +4,7 @@ use Rattle.std.proofs.lemmas.Bool.{eqb-true, eq-eqb}
 use Rattle.std.proofs.lemmas.Option.{slice_get_past}
 use Rattle.std.specs.List.{slice_get}
 use Rattle.slicc_plan.specs.declared.part.Body.{Body}
-use Rattle.slicc_plan.specs.CallsBetween.{IsReaching, Reaches, directly, through, calls_at, calls_or_none, is_reached, reaches_within}
+use Rattle.slicc_plan.specs.Prelude.{IsReaching, Reaches, directly, through, calls_at, calls_or_none, is_reached, reaches_within}
 use Rattle.slicc_flow.specs.declared.reach.Found.{Found}
 use Rattle.slicc_flow.specs.Marks.{found_in}
 use Rattle.slicc_flow.proofs.Reaching.{any_in, has, has_index, or_left}

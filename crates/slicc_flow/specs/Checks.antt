@@ -7,10 +7,7 @@ use Rattle.slicc_ast.specs.declared.tree.machine.Decl.{Decl}
 use Rattle.slicc_ast.specs.declared.tree.machine.Machine.{Machine}
 use Rattle.slicc_ast.specs.declared.tree.machine.Transition.{Transition}
 use Rattle.slicc_plan.specs.declared.part.Body.{Body}
-use Rattle.slicc_plan.specs.BodyParts.{names_of_written, number_in, written_actions}
-use Rattle.slicc_plan.specs.Declarations.{machines_of}
-use Rattle.slicc_plan.specs.Machines.{transition_in, transitions_of}
-use Rattle.slicc_plan.specs.TableNeeds.{checks_at, checks_of}
+use Rattle.slicc_plan.specs.Prelude.{names_of_written, number_in, written_actions, machines_of, transition_in, transitions_of, checks_at, checks_of}
 
 -- those of a transition, where the actions of these names have these bodies
 abbrev pub transition_checks : List (List ℕ) → List Body → Transition → List ℕ

@@ -4,12 +4,7 @@ use Rattle.std.specs.Prelude.{◌≡◌, ◌++◌, ℕ, Some, List, [], Result, 
 use Rattle.slicc_ast.specs.declared.tree.item.Tree.{Tree}
 use Rattle.slicc_plan.specs.declared.broken.Broken.{Broken}
 use Rattle.slicc_plan.specs.declared.refusal.Refusal.{Refusal}
-use Rattle.slicc_plan.specs.BodySizes.{large_bodies}
-use Rattle.slicc_plan.specs.BrokenDeclarations.{IsAnswered}
-use Rattle.slicc_plan.specs.CallsBetween.{call_circles}
-use Rattle.slicc_plan.specs.Order.{IsFirstBroken}
-use Rattle.slicc_plan.specs.ReadOnly.{reading_changes}
-use Rattle.slicc_plan.specs.TableNeeds.{needs}
+use Rattle.slicc_plan.specs.Prelude.{large_bodies, IsAnswered, call_circles, IsFirstBroken, reading_changes, needs}
 use Rattle.slicc_flow.specs.Checks.{count_in}
 
 -- what is broken of them

@@ -6,3 +6,4 @@ pub mod Sizes
 pub mod Tables
 pub mod Lists
 pub mod Written
+pub mod Prelude

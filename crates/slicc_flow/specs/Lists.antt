@@ -6,7 +6,7 @@ use Rattle.slicc_ast.specs.declared.tree.expression.Suffix.{Suffix}
 use Rattle.slicc_ast.specs.declared.tree.statement.ElseIf.{ElseIf}
 use Rattle.slicc_plan.specs.declared.part.Part.{Part}
 use Rattle.slicc_plan.specs.declared.part.Part.TheVariants.{Plain}
-use Rattle.slicc_plan.specs.BodyParts.{Names, block_parts, expr_parts, suffix_parts}
+use Rattle.slicc_plan.specs.Prelude.{Names, block_parts, expr_parts, suffix_parts}
 
 -- an operator and its operand
 abbrev pub operand_parts : Names → Operand → List Part

@@ -3,12 +3,9 @@ use Rattle.std.specs.Prelude.{ℕ, ◌+◌, ◌++◌, List, [], ◌∷◌, codes
 use Rattle.slicc_ast.specs.declared.tree.item.Tree.{Tree}
 use Rattle.slicc_ast.specs.declared.tree.machine.Machine.{Machine}
 use Rattle.slicc_plan.specs.declared.broken.Broken.{Broken}
-use Rattle.slicc_plan.specs.BodyParts.{Names, bodies_of, names_in, number_in, written_actions, written_functions, written_ports}
-use Rattle.slicc_plan.specs.BodySizes.{large_among}
-use Rattle.slicc_plan.specs.CallsBetween.{circles_among}
-use Rattle.slicc_plan.specs.Declarations.{Scope, everywhere, within, machines_of}
-use Rattle.slicc_plan.specs.ReadOnly.{changes_among}
-use Rattle.declared_types.specs.Scopes.{scope_at}
+use Rattle.slicc_plan.specs.BodyParts.{names_in}
+use Rattle.slicc_plan.specs.Prelude.{Names, bodies_of, number_in, written_actions, written_functions, written_ports, large_among, circles_among, Scope, everywhere, within, machines_of, changes_among}
+use Rattle.declared_types.specs.Prelude.{scope_at}
 use Rattle.slicc_flow.specs.declared.machine.MachineBodies.{MachineBodies}
 use Rattle.slicc_flow.specs.Checks.{checks_with}
 

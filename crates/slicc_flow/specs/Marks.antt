@@ -2,7 +2,7 @@
 use Rattle.std.specs.Prelude.{ℕ, zero, suc, Bool, true, false, not, cond, Option, None, Some, List, [], ◌∷◌, ◌++◌, length, map}
 use Rattle.std.specs.List.{slice_get, slice_index_or, slice_set}
 use Rattle.slicc_plan.specs.declared.part.Body.{Body}
-use Rattle.slicc_plan.specs.CallsBetween.{calls_at}
+use Rattle.slicc_plan.specs.Prelude.{calls_at}
 use Rattle.slicc_flow.specs.declared.reach.Found.{Found}
 
 -- there is such a function, and it isn't found yet

@@ -2,7 +2,7 @@
 use Rattle.std.specs.Prelude.{◌≡◌, ℕ, List, map, min}
 use Rattle.std.specs.List.{slice_index_or}
 use Rattle.slicc_plan.specs.declared.part.Body.{Body}
-use Rattle.slicc_plan.specs.BodySizes.{function_size, size_with}
+use Rattle.slicc_plan.specs.Prelude.{function_size, size_with}
 
 abbrev pub capped : ℕ → ℕ
 capped n = min n 100001

@@ -2,11 +2,10 @@
 use Rattle.std.specs.Prelude.{ℕ, Bool, Option, List}
 use Rattle.slicc_ast.specs.declared.tree.item.Tree.{Tree}
 use Rattle.slicc_plan.specs.declared.built_in.BuiltInType.TheVariants.{Directory as DirectoryType}
-use Rattle.slicc_plan.specs.BodyParts.{is_table_type}
-use Rattle.slicc_plan.specs.Types.{KnownType, is_built_in, type_in}
-use Rattle.declared_types.specs.Scopes.{scope_at}
-use Rattle.slicc_flow.specs.declared.tables.TableSort.{TableSort}
-use Rattle.slicc_flow.specs.declared.tables.TableSort.TheVariants.{Any, Directory}
+use Rattle.slicc_plan.specs.Prelude.{is_table_type, KnownType, is_built_in, type_in}
+use Rattle.declared_types.specs.Prelude.{scope_at}
+use Rattle.slicc_flow.specs.declared.names.TableSort.{TableSort}
+use Rattle.slicc_flow.specs.declared.names.TableSort.TheVariants.{Any, Directory}
 
 abbrev pub is_of_sort : TableSort → Option KnownType → Bool
 is_of_sort Any t = is_table_type t

@@ -1,8 +1,9 @@
 -- What is lent of the bodies of a machine, as their definitions see it, and parts sorted by what they do.
 use Rattle.std.specs.Prelude.{ℕ, Option, None, Some, List, [], ◌∷◌, ◌++◌, flat_map, map}
 use Rattle.slicc_plan.specs.declared.part.Part.{Part}
-use Rattle.slicc_plan.specs.BodyParts.{Written, call_in, change_in, check_in}
-use Rattle.slicc_flow.specs.declared.body.Sorts.{Sorts}
+use Rattle.slicc_plan.specs.BodyParts.{Written}
+use Rattle.slicc_plan.specs.Prelude.{call_in, change_in, check_in}
+use Rattle.slicc_flow.specs.declared.written.Sorts.{Sorts}
 use Rattle.slicc_flow.specs.declared.written.Lent.{Lent}
 
 abbrev pub written_of : Lent → Written

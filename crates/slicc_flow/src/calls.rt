@@ -3,7 +3,7 @@ ghost use Rattle.std.specs.Prelude.{◌≡◌};
 ghost use Rattle.std.specs.List.{list_any};
 ghost use Rattle.std.specs.Option.{option_copied};
 ghost use Rattle.std.specs.Str.{bytes_eq};
-ghost use Rattle.slicc_plan.specs.BodyParts.{changes_more, free_changes, is_one_of as is_among, table_changes, value_changes};
+ghost use Rattle.slicc_plan.specs.Prelude.{changes_more, free_changes, is_one_of, table_changes, value_changes};
 
 use crate::names::Names;
 
@@ -44,19 +44,19 @@ fn is_one_of(word: &[u8], texts: &[&str]) -> bool
 
 /// Whether a call of this name, which no function of the machine has, changes more than a local.
 pub fn is_free_change(name: &[u8]) -> bool
-    ensures { result ≡ is_among free_changes name.now }
+    ensures { result ≡ is_one_of free_changes name.now }
 {
     is_one_of(name, &FREE_CHANGES)
 }
 
 fn is_table_change(name: &[u8]) -> bool
-    ensures { result ≡ is_among table_changes name.now }
+    ensures { result ≡ is_one_of table_changes name.now }
 {
     is_one_of(name, &TABLE_CHANGES)
 }
 
 fn is_value_change(name: &[u8]) -> bool
-    ensures { result ≡ is_among value_changes name.now }
+    ensures { result ≡ is_one_of value_changes name.now }
 {
     is_one_of(name, &VALUE_CHANGES)
 }

@@ -1,9 +1,7 @@
 //! What only reads and changes something.
-ghost use Rattle.std.specs.Prelude.{◌≡◌, ◌<◌, ℕ, [], cond, length, flat_map, false as no, IfOk};
+ghost use Rattle.std.specs.Prelude.{◌≡◌, ◌<◌, ℕ, [], cond, length, flat_map, false, IfOk};
 ghost use Rattle.std.specs.List.{slice_index_or};
-ghost use Rattle.slicc_plan.specs.CallsBetween.{is_reached};
-ghost use Rattle.slicc_plan.specs.Order.{first_after};
-ghost use Rattle.slicc_plan.specs.ReadOnly.{changes_among, changes_at, reached_changes, reading_calls};
+ghost use Rattle.slicc_plan.specs.Prelude.{is_reached, first_after, changes_among, changes_at, reached_changes, reading_calls};
 
 use crate::reach::reached;
 use ruby_base::{NoMemory, Seq};
@@ -55,7 +53,7 @@ fn seen_changes(
 ) -> Option<Broken>
     requires size { length seen.now ≡ length functions.now }
     requires seen { (k : ℕ) → k < length functions.now
-        → slice_index_or seen.now k no ≡ is_reached functions.now k calls.now }
+        → slice_index_or seen.now k false ≡ is_reached functions.now k calls.now }
     ensures { result ≡ first_after first (reached_changes machine functions.now calls.now 0 functions.now) }
 {
     let mut first = first;

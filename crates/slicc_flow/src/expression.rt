@@ -2,8 +2,8 @@
 ghost use Rattle.std.specs.Prelude.{◌≡◌, ◌++◌, None, OnOk};
 ghost use Rattle.std.specs.List.{flat_map};
 ghost use Rattle.std.specs.Option.{option_copied};
-ghost use Rattle.slicc_plan.specs.BodyParts.{call_part, changing, expr_parts, name_in as name_of, number_in, suffix_parts};
-ghost use Rattle.slicc_flow.specs.Lists.{operand_parts, receiver_at, suffix_list_parts};
+ghost use Rattle.slicc_plan.specs.Prelude.{call_part, changing, expr_parts, name_in, number_in, suffix_parts};
+ghost use Rattle.slicc_flow.specs.Prelude.{operand_parts, receiver_at, suffix_list_parts};
 
 use crate::calls::{is_change, is_free_change};
 use crate::names::Names;
@@ -33,7 +33,7 @@ fn call_of(names: &Names, name: &[u8], place: Span) -> Part
 
 /// The name that an expression is, parentheses aside.
 pub fn name_in(e: &Expr) -> Option<&[u8]>
-    ensures { option_copied result ≡ name_of e.now }
+    ensures { option_copied result ≡ name_in e.now }
 {
     match e {
         Expr::Variable(name) => Some(name.text.as_slice()),

@@ -1,13 +1,13 @@
 //! The rules of flow, over all machines.
 ghost use Rattle.std.specs.Prelude.{◌≡◌, ◌++◌, IfOk, OnOk};
-ghost use Rattle.slicc_plan.specs.Order.{first_after};
-ghost use Rattle.slicc_flow.specs.Flows.{broken_flow};
-ghost use Rattle.slicc_flow.specs.Machines.{all_bodies, bodies_at, changes_of, circles_of, each_from, found_in, large_of};
+ghost use Rattle.slicc_plan.specs.Prelude.{first_after};
+ghost use Rattle.slicc_flow.specs.Prelude.{broken_flow, all_bodies, bodies_at, changes_of, circles_of, each_from, large_of};
+ghost use Rattle.slicc_flow.specs.Machines.{found_in};
 
 use crate::changes::reading_changes;
-use crate::circle::circles;
-use crate::large::large_bodies;
 use crate::machine::{MachineBodies, machine_bodies};
+use crate::reach::circles;
+use crate::sizes::large_bodies;
 use declared_types::{Scope, Scopes};
 use ruby_base::{NoMemory, Seq};
 use slicc_plan::Broken;

@@ -2,14 +2,10 @@
 //! need of tables.
 #![tactic(auto)]
 
-mod body;
 mod calls;
 mod changes;
-mod checks;
-mod circle;
 mod expression;
 mod judge;
-mod large;
 mod laws;
 mod machine;
 mod names;
@@ -18,7 +14,6 @@ mod protocol;
 mod reach;
 mod sizes;
 mod statement;
-mod tables;
 mod written;
 
 pub use judge::flow_broken;

@@ -1,20 +1,17 @@
 //! The bodies of a machine, and what its transitions check.
-ghost use Rattle.std.specs.Prelude.{◌≡◌, IfOk};
-ghost use Rattle.slicc_plan.specs.BodyParts.{bodies_of, names_in, written_actions, written_functions, written_ports};
-ghost use Rattle.slicc_plan.specs.Declarations.{within};
-ghost use Rattle.declared_types.specs.Scopes.{scope_at};
+ghost use Rattle.std.specs.Prelude.{◌≡◌, IfOk, ◌++◌, OnOk, map};
+ghost use Rattle.slicc_plan.specs.BodyParts.{names_in};
+ghost use Rattle.slicc_plan.specs.Prelude.{bodies_of, written_actions, written_functions, written_ports, within, number_in, transitions_of, checks_at};
+ghost use Rattle.declared_types.specs.Prelude.{scope_at};
 ghost use Rattle.slicc_flow.specs.Written.{written_list};
-ghost use Rattle.slicc_flow.specs.Checks.{checks_with};
+ghost use Rattle.slicc_flow.specs.Checks.{checks_with, decl_checks, transition_checks};
 ghost use Rattle.slicc_flow.specs.Machines.{bodies_in, bodies_with};
 
-use crate::body::bodies;
-use crate::checks::machine_checks;
-use crate::names::Names;
-use crate::tables::{TableSort, table_names};
-use crate::written::{Lent, actions, functions, ports};
+use crate::names::{Names, TableSort, table_names};
+use crate::written::{Lent, actions, bodies, functions, ports};
 use declared_types::Scopes;
-use ruby_base::{NoMemory, Seq};
-use slicc_ast::tree::Machine;
+use ruby_base::{NameIndex, NoMemory, Seq};
+use slicc_ast::tree::{Decl, Machine, Transition};
 use slicc_plan::Body;
 use std::alloc::Global;
 
@@ -103,4 +100,65 @@ pub fn machine_bodies(
 {
     let (names, written) = names_of(alloc, scopes, scope, m)?;
     bodies_by(alloc, &names, &written, m)
+}
+
+// The tables that the action of a name checks.
+fn checks_at<'a>(names: &NameIndex, actions: &'a [Body], name: &[u8]) -> &'a [u32]
+    ensures { result.now ≡ checks_at actions.now (number_in names.now name.now) }
+{
+    match names.find(name) {
+        Some(k) => match actions.get(k as usize) {
+            Some(b) => b.checks.as_slice(),
+            None => &[],
+        },
+        None => &[],
+    }
+}
+
+// Those that the actions of a transition check, one by one.
+fn transition_checks(
+    alloc: Global,
+    names: &NameIndex,
+    actions: &[Body],
+    t: &Transition,
+) -> Result<Seq<u32>, NoMemory>
+    ensures { IfOk result (λ r. r ≡ transition_checks names.now actions.now t.now) }
+{
+    let mut checks = Seq::new(alloc);
+    for action in t.actions.as_slice() {
+        checks.append(checks_at(names, actions, action.text.as_slice()))?;
+    }
+    Ok(checks)
+}
+
+// Adds those of a transition, where the declaration is one.
+fn add_checks(
+    alloc: Global,
+    list: &mut Seq<Seq<u32>>,
+    names: &NameIndex,
+    actions: &[Body],
+    d: &Decl,
+) -> Result<(), NoMemory>
+    ensures { OnOk result (list.new ≡ list.old ++ decl_checks names.now actions.now d.now) }
+{
+    match d {
+        Decl::Transition(t) => list.push(transition_checks(alloc, names, actions, t)?),
+        _ => Ok(()),
+    }
+}
+
+/// Those of the written transitions of a machine.
+pub fn machine_checks(
+    alloc: Global,
+    names: &NameIndex,
+    actions: &[Body],
+    m: &Machine,
+) -> Result<Seq<Seq<u32>>, NoMemory>
+    ensures { IfOk result (λ r. r ≡ map (transition_checks names.now actions.now) (transitions_of m.now)) }
+{
+    let mut list = Seq::new(alloc);
+    for d in m.declarations.as_slice() {
+        add_checks(alloc, &mut list, names, actions, d)?;
+    }
+    Ok(list)
 }

@@ -1,6 +1,6 @@
 //! Whether a protocol keeps the rules of flow, and what its transitions need.
 ghost use Rattle.std.specs.Prelude.{◌≡◌, IfOk};
-ghost use Rattle.slicc_flow.specs.Flows.{IsFlow, IsFlowOrBroken};
+ghost use Rattle.slicc_flow.specs.Prelude.{IsFlow, IsFlowOrBroken};
 
 use crate::judge::{all_bodies, first_found};
 use crate::needs::Flow;

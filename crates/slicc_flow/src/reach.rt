@@ -1,12 +1,12 @@
 //! Which functions calls reach.
-ghost use Rattle.std.specs.Prelude.{◌≡◌, ◌<◌, ℕ, [], length, false as no, IfOk, OnOk, map};
+ghost use Rattle.std.specs.Prelude.{◌≡◌, ◌<◌, ℕ, [], length, false, IfOk, OnOk, map};
 ghost use Rattle.std.specs.List.{slice_index_or};
-ghost use Rattle.slicc_plan.specs.declared.part.Body.{Body as BodyRecord};
-ghost use Rattle.slicc_plan.specs.CallsBetween.{is_reached};
+ghost use Rattle.slicc_plan.specs.declared.part.Body.{Body};
+ghost use Rattle.slicc_plan.specs.Prelude.{is_reached, circle_at, circles_among, first_after};
 ghost use Rattle.slicc_flow.specs.Marks.{found_in, is_unseen, next_calls, with_call, with_calls};
 
 use ruby_base::{NoMemory, Seq};
-use slicc_plan::Body;
+use slicc_plan::{Body, Broken, Rule, earlier_broken};
 use std::alloc::Global;
 
 /// The functions that are found, and those among them in the order in which they were found.
@@ -58,7 +58,7 @@ fn calls_next<'a>(functions: &'a [Body], queue: &[u32], place: usize) -> &'a [u3
 }
 
 fn none_seen(alloc: Global, functions: &[Body]) -> Result<Seq<bool>, NoMemory>
-    ensures { IfOk result (λ r. r ≡ map (λ (b : BodyRecord). no) functions.now) }
+    ensures { IfOk result (λ r. r ≡ map (λ (b : Body). false) functions.now) }
 {
     let mut seen = Seq::new(alloc);
     for _body in functions {
@@ -87,8 +87,48 @@ fn found_by(alloc: Global, functions: &[Body], calls: &[u32]) -> Result<Found, N
 pub fn reached(alloc: Global, functions: &[Body], calls: &[u32]) -> Result<Seq<bool>, NoMemory>
     ensures size { IfOk result (λ r. length r ≡ length functions.now) }
     ensures reached { IfOk result (λ r. (k : ℕ) → k < length functions.now
-        → slice_index_or r k no ≡ is_reached functions.now k calls.now) }
+        → slice_index_or r k false ≡ is_reached functions.now k calls.now) }
 {
     let found = found_by(alloc, functions, calls)?;
     Ok(found.seen)
+}
+
+fn circle_of(
+    alloc: Global,
+    first: Option<Broken>,
+    machine: u16,
+    functions: &[Body],
+    number: usize,
+    b: &Body,
+) -> Result<Option<Broken>, NoMemory>
+    requires { number < length functions.now }
+    ensures { IfOk result (λ r. r ≡ first_after first (circle_at machine functions.now number b.now)) }
+{
+    let reached = reached(alloc, functions, b.calls.as_slice())?;
+    if !reached[number] {
+        return Ok(first);
+    }
+    let broken = Broken {
+        rule: Rule::CallCircle,
+        machine,
+        place: b.place,
+        other: None,
+    };
+    Ok(earlier_broken(first, broken))
+}
+
+/// The first broken rule after those that functions of a machine break by calling each other in circles.
+pub fn circles(
+    alloc: Global,
+    first: Option<Broken>,
+    machine: u16,
+    functions: &[Body],
+) -> Result<Option<Broken>, NoMemory>
+    ensures { IfOk result (λ r. r ≡ first_after first (circles_among machine functions.now)) }
+{
+    let mut first = first;
+    for (number, b) in functions.iter().enumerate() {
+        first = circle_of(alloc, first, machine, functions, number, b)?;
+    }
+    Ok(first)
 }

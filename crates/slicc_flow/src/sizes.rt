@@ -1,11 +1,11 @@
 //! The sizes of functions, with those of what they call.
-ghost use Rattle.std.specs.Prelude.{◌≡◌, ℕ, ◌<◌, length, IfOk, map};
+ghost use Rattle.std.specs.Prelude.{◌≡◌, ℕ, ◌<◌, length, IfOk, map, ◌++◌};
 ghost use Rattle.std.specs.List.{slice_index_or};
-ghost use Rattle.slicc_plan.specs.BodySizes.{function_size, size_with};
-ghost use Rattle.slicc_flow.specs.Sizes.{AreSizes, capped, next_sizes};
+ghost use Rattle.slicc_plan.specs.Prelude.{function_size, size_with, large_among, large_at, first_after};
+ghost use Rattle.slicc_flow.specs.Prelude.{AreSizes, capped, next_sizes};
 
 use ruby_base::{NoMemory, Seq};
-use slicc_plan::Body;
+use slicc_plan::{Body, Broken, Rule, earlier_broken};
 use std::alloc::Global;
 
 /// One more than the largest size that is allowed; what is larger is taken for this.
@@ -51,4 +51,64 @@ pub fn function_sizes(alloc: Global, functions: &[Body]) -> Result<Seq<u64>, NoM
         sizes = deeper_sizes(alloc, functions, &sizes)?;
     }
     Ok(sizes)
+}
+
+// The largest size of a body.
+const LARGEST: u64 = 100_000;
+
+fn large_of(
+    first: Option<Broken>,
+    machine: u16,
+    functions: &[Body],
+    sizes: &[u64],
+    b: &Body,
+) -> Option<Broken>
+    requires { AreSizes functions.now (length functions.now) sizes.now }
+    ensures { result ≡ first_after first (large_at machine functions.now b.now) }
+{
+    if size_in(sizes, b) <= LARGEST {
+        return first;
+    }
+    let broken = Broken {
+        rule: Rule::BodyTooLarge,
+        machine,
+        place: b.place,
+        other: None,
+    };
+    earlier_broken(first, broken)
+}
+
+fn large_among(
+    first: Option<Broken>,
+    machine: u16,
+    functions: &[Body],
+    sizes: &[u64],
+    bodies: &[Body],
+) -> Option<Broken>
+    requires { AreSizes functions.now (length functions.now) sizes.now }
+    ensures { result ≡ first_after first (large_among machine functions.now bodies.now) }
+{
+    let mut first = first;
+    for b in bodies {
+        first = large_of(first, machine, functions, sizes, b);
+    }
+    first
+}
+
+/// The first broken rule after those that bodies of a machine break by being too large.
+pub fn large_bodies(
+    alloc: Global,
+    first: Option<Broken>,
+    machine: u16,
+    functions: &[Body],
+    actions: &[Body],
+    ports: &[Body],
+) -> Result<Option<Broken>, NoMemory>
+    ensures { IfOk result (λ r. r ≡ first_after first (large_among machine functions.now functions.now
+        ++ large_among machine functions.now actions.now ++ large_among machine functions.now ports.now)) }
+{
+    let sizes = function_sizes(alloc, functions)?;
+    let first = large_among(first, machine, functions, &sizes, functions);
+    let first = large_among(first, machine, functions, &sizes, actions);
+    Ok(large_among(first, machine, functions, &sizes, ports))
 }

@@ -1,8 +1,8 @@
 //! The parts of statements.
 ghost use Rattle.std.specs.Prelude.{◌≡◌, ◌++◌, OnOk};
 ghost use Rattle.std.specs.List.{flat_map};
-ghost use Rattle.slicc_plan.specs.BodyParts.{assignment, block_parts, check_part, if_parts, number_in, optional_parts, stmt_parts};
-ghost use Rattle.slicc_flow.specs.Lists.{else_if_parts};
+ghost use Rattle.slicc_plan.specs.Prelude.{assignment, block_parts, check_part, if_parts, number_in, optional_parts, stmt_parts};
+ghost use Rattle.slicc_flow.specs.Prelude.{else_if_parts};
 
 use crate::expression::{add_expr, change_part, name_in};
 use crate::names::Names;

@@ -8,13 +8,11 @@ use Rattle.slicc_files.specs.declared.gathered.Gathered.{Gathered}
 use Rattle.slicc_files.specs.declared.gathered.Gathered.TheVariants as gathered
 use Rattle.slicc_files.specs.declared.gathered.Source.{Source}
 use Rattle.slicc_plan.specs.declared.broken.Broken.{Broken}
-use Rattle.slicc_plan.specs.AllRules.{IsToldOf}
-use Rattle.slicc_plan.specs.Order.{number_of, second_rank}
+use Rattle.slicc_plan.specs.Prelude.{IsToldOf, number_of, second_rank}
 use Rattle.slicc_plan.proofs.OneAnswer.{none_told, one_told, rule_at}
 use Rattle.slicc_front.specs.declared.answer.Front.{Front}
 use Rattle.slicc_front.specs.declared.answer.Front.TheVariants.{Plan, Refused}
-use Rattle.slicc_front.specs.Fronts.{IsFrontFor, IsFrontOf, place_in, place_of, refusal_at}
-use Rattle.slicc_front.specs.Fronts.IsFrontFor.{keeps_all, breaks_one}
+use Rattle.slicc_front.specs.Prelude.{IsFrontFor, IsFrontOf, place_in, place_of, refusal_at, keeps_all, breaks_one}
 
 -- spans that begin at one byte have one place
 one_place : (sources : List Source) (p q : Span) → p.file ≡ q.file → p.start ≡ q.start → place_of sources p ≡ place_of sources q

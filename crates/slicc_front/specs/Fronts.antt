@@ -11,11 +11,10 @@ use Rattle.slicc_files.specs.declared.gathered.Gathered.{Gathered}
 use Rattle.slicc_files.specs.declared.gathered.Gathered.TheVariants as gathered
 use Rattle.slicc_files.specs.declared.gathered.Refused.{Refused as Refusal}
 use Rattle.slicc_files.specs.declared.gathered.Source.{Source}
-use Rattle.slicc_files.specs.Gathering.{IsAllowed, IsGatheredBy}
-use Rattle.slicc_lex.specs.Places.{line_of, column_of}
+use Rattle.slicc_files.specs.Prelude.{IsAllowed, IsGatheredBy}
+use Rattle.slicc_lex.specs.Prelude.{line_of, column_of}
 use Rattle.slicc_plan.specs.declared.broken.Broken.{Broken}
-use Rattle.slicc_plan.specs.AllRules.{IsAccepted, IsToldOf}
-use Rattle.slicc_plan.specs.Order.{number_of}
+use Rattle.slicc_plan.specs.Prelude.{IsAccepted, IsToldOf, number_of}
 use Rattle.slicc_front.specs.declared.answer.Front.{Front}
 use Rattle.slicc_front.specs.declared.answer.Front.TheVariants.{Plan, Refused, Absent, TooLarge, ReadFault, NoMemory}
 

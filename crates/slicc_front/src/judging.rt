@@ -1,9 +1,7 @@
 //! A protocol's files, read and judged.
 ghost use Rattle.std.specs.Prelude.{All, IsUtf8};
-ghost use Rattle.slicc_files.specs.Gathering.{IsAllowed};
-ghost use Rattle.slicc_files.specs.Steps.{IsShort};
-ghost use Rattle.slicc_front.specs.Fronts.{IsFrontAllowed, IsFrontBy, IsFrontIfRoom};
-ghost use Rattle.slicc_front.specs.Told.{IsToldSo};
+ghost use Rattle.slicc_files.specs.Prelude.{IsAllowed, IsShort};
+ghost use Rattle.slicc_front.specs.Prelude.{IsFrontAllowed, IsFrontBy, IsFrontIfRoom, IsToldSo};
 
 use crate::Front;
 use crate::told::refusal;

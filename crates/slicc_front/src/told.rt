@@ -1,8 +1,8 @@
 //! How a broken rule is told.
 ghost use Rattle.std.specs.Prelude.{◌≡◌, ◌≤◌, All, IfOk, length};
 ghost use Rattle.std.specs.Option.{option_map};
-ghost use Rattle.slicc_front.specs.Fronts.{code_of, place_of as place_of_span, refusal_at};
-ghost use Rattle.slicc_files.specs.Steps.{IsShort};
+ghost use Rattle.slicc_front.specs.Prelude.{code_of, place_of, refusal_at};
+ghost use Rattle.slicc_files.specs.Prelude.{IsShort};
 
 use ruby_base::{NoMemory, Text};
 use slicc_files::{Refused, Source, place_in};
@@ -12,7 +12,7 @@ use std::alloc::Global;
 // The place of a span's first byte: the file's name, the line and the column.
 fn place_of(alloc: Global, sources: &[Source], span: Span) -> Result<(Text, u32, u32), NoMemory>
     requires { All IsShort sources.now }
-    ensures { IfOk result (λ place. place ≡ place_of_span sources.now span) }
+    ensures { IfOk result (λ place. place ≡ place_of sources.now span) }
 {
     match sources.get(span.file as usize) {
         None => Ok((Text::new(alloc), 1, 1)),
@@ -30,7 +30,7 @@ fn second_place(
     other: Option<Span>,
 ) -> Result<Option<(Text, u32, u32)>, NoMemory>
     requires { All IsShort sources.now }
-    ensures { IfOk result (λ place. place ≡ option_map (place_of_span sources.now) other) }
+    ensures { IfOk result (λ place. place ≡ option_map (place_of sources.now) other) }
 {
     match other {
         None => Ok(None),

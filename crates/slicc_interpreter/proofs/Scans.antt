@@ -6,18 +6,14 @@ use Rattle.slicc_ast.specs.declared.tree.item.Tree.{Tree}
 use Rattle.slicc_ast.specs.declared.tree.machine.Machine.{Machine}
 use Rattle.ruby_symbols.specs.declared.machine.MachineSymbols.{MachineSymbols}
 use Rattle.ruby_symbols.specs.declared.symbols.Symbols.{Symbols}
-use Rattle.slicc_plan.specs.Declarations.{machines_of}
-use Rattle.slicc_plan.specs.SymbolsOf.{symbols_of}
-use Rattle.slicc_plan.specs.Lawful.{HasNumbers}
-use Rattle.ctl_face.specs.LocalView.{LocalView}
-use Rattle.built_in_acts.specs.declared.setting.CallSetting.{CallSetting}
-use Rattle.body_meaning.specs.declared.round.RoundEnd.TheVariants.{Idle}
-use Rattle.body_meaning.specs.declared.tried.Tried.TheVariants.{Waits}
-use Rattle.body_meaning.specs.Round.{IsRoundOf}
-use Rattle.body_meaning.specs.Scan.{by_try, scan}
-use Rattle.statement_walk.specs.Few.{HasFew}
-use Rattle.protocol_meaning.specs.Meaning.{scan_of}
-use Rattle.protocol_meaning.specs.Readings.{call_setting}
+use Rattle.slicc_plan.specs.Prelude.{machines_of, symbols_of, HasNumbers}
+use Rattle.ctl_face.specs.Prelude.{LocalView}
+use Rattle.built_in_acts.specs.declared.call.CallSetting.{CallSetting}
+use Rattle.body_meaning.specs.declared.frame.RoundEnd.TheVariants.{Idle}
+use Rattle.body_meaning.specs.declared.frame.Tried.TheVariants.{Waits}
+use Rattle.body_meaning.specs.Prelude.{IsRoundOf, by_try, scan}
+use Rattle.statement_walk.specs.Prelude.{HasFew}
+use Rattle.protocol_meaning.specs.Prelude.{scan_of, call_setting}
 
 -- what holds of each is that of one that is there
 pub numbers_at : (xs : List MachineSymbols) (k : ℕ) (o : Option MachineSymbols) → All HasNumbers xs → o ≡ slice_get xs k → IfSome o HasNumbers

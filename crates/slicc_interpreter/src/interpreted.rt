@@ -1,10 +1,8 @@
 ghost use Rattle.std.specs.Prelude.{◌≡◌, List, Some, slice_get};
-ghost use Rattle.slicc_ast.specs.declared.tree.item.Tree.{Tree as TreeRecord};
-ghost use Rattle.slicc_plan.specs.Declarations.{machines_of};
-ghost use Rattle.slicc_plan.specs.SymbolsOf.{symbols_of};
-ghost use Rattle.slicc_plan.specs.Lawful.{HasNumbers};
-ghost use Rattle.body_meaning.specs.Round.{IsRoundOf};
-ghost use Rattle.protocol_meaning.specs.Meaning.{scan_of};
+ghost use Rattle.slicc_ast.specs.declared.tree.item.Tree.{Tree};
+ghost use Rattle.slicc_plan.specs.Prelude.{machines_of, symbols_of, HasNumbers};
+ghost use Rattle.body_meaning.specs.Prelude.{IsRoundOf};
+ghost use Rattle.protocol_meaning.specs.Prelude.{scan_of};
 
 use crate::settings::call_setting;
 use crate::small::{machine_of, plans_are_small};
@@ -26,11 +24,11 @@ pub struct Interpreted {
 
 impl Model for Interpreted {
     ghost use Rattle.std.specs.Prelude.{List};
-    ghost use Rattle.slicc_ast.specs.declared.tree.item.Tree.{Tree as TreeRecord};
+    ghost use Rattle.slicc_ast.specs.declared.tree.item.Tree.{Tree};
     ghost use Rattle.std.specs.Coded.{coded_list};
     ghost use Rattle.slicc_ast.specs.contracts.tree.item.Tree as tree;
 
-    ghost Value = { List TreeRecord };
+    ghost Value = { List Tree };
 
     ghost coded = { coded_list tree.the_row.coded };
 
@@ -57,7 +55,7 @@ impl Protocol for Interpreted {
         fired: u64,
         limit: u64,
     ) -> Result<RoundEnd, NoMemory>
-        ensures { (trees : List TreeRecord) → trees ≡ self.now
+        ensures { (trees : List Tree) → trees ≡ self.now
             → IsRoundOf (scan_of trees machine limit fired (T.view local.old)) result
             (T.view local.new) (T.view local.old) }
     {

@@ -1,7 +1,7 @@
 // What the built-in calls of a machine go by.
 ghost use Rattle.std.specs.Prelude.{◌≡◌, ◌≤◌, IfOk, length, map};
-ghost use Rattle.slicc_plan.specs.Lawful.{HasNumbers};
-ghost use Rattle.protocol_meaning.specs.Readings.{call_setting as call_setting_is, has_tbe_references as has_tbe_references_is, kept_machines as kept_machines_are};
+ghost use Rattle.slicc_plan.specs.Prelude.{HasNumbers};
+ghost use Rattle.protocol_meaning.specs.Prelude.{call_setting, has_tbe_references, kept_machines};
 
 use built_in_acts::{CallSetting, KeptMachines};
 use ruby_base::{NoMemory, Seq};
@@ -9,7 +9,7 @@ use ruby_symbols::{MachineSymbols, Symbols, TableSort, TableSymbol};
 use std::alloc::Global;
 
 fn has_tbe_references(tbe: Option<u16>, t: &TableSymbol) -> bool
-    ensures { result ≡ has_tbe_references_is tbe t.now.structure t.now.sort }
+    ensures { result ≡ has_tbe_references tbe t.now.structure t.now.sort }
 {
     match t.sort {
         TableSort::Tbe { .. } => true,
@@ -26,7 +26,7 @@ fn tbe_references(
     tables: &[TableSymbol],
 ) -> Result<Seq<bool>, NoMemory>
     ensures { IfOk result (λ all. all
-        ≡ map (λ t. has_tbe_references_is tbe t.structure t.sort) tables.now) }
+        ≡ map (λ t. has_tbe_references tbe t.structure t.sort) tables.now) }
 {
     let mut all = Seq::new(alloc);
     for t in tables {
@@ -38,7 +38,7 @@ fn tbe_references(
 fn kept_machines(symbols: &Symbols, m: &MachineSymbols) -> KeptMachines
     requires numbers { HasNumbers m.now }
     requires machines { length symbols.now.machines ≤ 16 }
-    ensures { result ≡ kept_machines_are (length symbols.now.machines) m.now }
+    ensures { result ≡ kept_machines (length symbols.now.machines) m.now }
 {
     KeptMachines {
         table: m.tables.len() as u16,
@@ -55,7 +55,7 @@ pub(crate) fn call_setting(
 ) -> Result<CallSetting, NoMemory>
     requires numbers { HasNumbers m.now }
     requires machines { length symbols.now.machines ≤ 16 }
-    ensures { IfOk result (λ s. s ≡ call_setting_is symbols.now m.now) }
+    ensures { IfOk result (λ s. s ≡ call_setting symbols.now m.now) }
 {
     Ok(CallSetting {
         tbe_references: tbe_references(alloc, m.tbe, &m.tables)?,

@@ -1,8 +1,7 @@
 // What is known of the sizes of accepted protocols.
 ghost use Rattle.std.specs.Prelude.{◌≡◌, ◌≤◌, All, IfSome, length, slice_get};
 ghost use Rattle.std.specs.Option.{option_copied};
-ghost use Rattle.slicc_plan.specs.SymbolsOf.{symbols_of};
-ghost use Rattle.slicc_plan.specs.Lawful.{HasNumbers};
+ghost use Rattle.slicc_plan.specs.Prelude.{symbols_of, HasNumbers};
 
 use ruby_symbols::MachineSymbols;
 use slicc_plan::{Plan, lists_have_numbers, machines_are_few};

@@ -1,10 +1,9 @@
 -- What is known of a byte by its class.
 use Rattle.std.proofs.Common.{◌≡◌, ℕ, Bool, true, false, cond, List, [], ◌∷◌, refl, eqb}
-use Rattle.slicc_ast.specs.Bytes.{is_blank, is_letter}
+use Rattle.slicc_ast.specs.Prelude.{is_blank, is_letter}
 use Rattle.slicc_lex.specs.declared.class.Class.{Class}
 use Rattle.slicc_lex.specs.declared.class.Class.TheVariants.{Blank, Letter, Digit, Quote, Slash, Other}
-use Rattle.slicc_lex.specs.Numbers.{is_digit}
-use Rattle.slicc_lex.specs.Classes.{class_of, is_quote, BeginsWith}
+use Rattle.slicc_lex.specs.Prelude.{is_digit, class_of, is_quote, BeginsWith}
 use Rattle.slicc_lex.proofs.Shapes.{first_class}
 
 abbrev pub picked : Bool → Bool → Bool → Bool → Bool → Class

@@ -3,8 +3,7 @@ use Rattle.std.proofs.Common.{◌≡◌, ◌+◌, ◌<◌, ◌&&◌, ◌||◌, �
 use Rattle.std.specs.Option.{option_map}
 use Rattle.std.proofs.lemmas.Bool.{cond-true, cond-false, cases_Bool, and_parts, false≢true}
 use Rattle.std.proofs.lemmas.Option.{none-some}
-use Rattle.slicc_lex.specs.Pieces.{has_close}
-use Rattle.slicc_lex.specs.Lexing.{close_len}
+use Rattle.slicc_lex.specs.Prelude.{has_close, close_len}
 
 pub close_short : (bytes : List ℕ) → length bytes < 2 → close_len bytes ≡ None
 close_short [] short = refl

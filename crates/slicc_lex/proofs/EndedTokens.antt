@@ -3,8 +3,7 @@ use Rattle.std.proofs.Common.{◌≡◌, ◌+◌, ◌≤◌, ◌++◌, ℕ, List
 use Rattle.slicc_lex.specs.declared.token.Token.{Token}
 use Rattle.slicc_lex.specs.declared.fault.LexFault.{LexFault}
 use Rattle.slicc_lex.specs.declared.piece.Piece.TheVariants.{Lexeme}
-use Rattle.slicc_lex.specs.Syntax.{AreEnded}
-use Rattle.slicc_lex.specs.Tokens.{Reads, ends, skips, takes, stops, with_token}
+use Rattle.slicc_lex.specs.Prelude.{AreEnded, Reads, ends, skips, takes, stops, with_token}
 use Rattle.slicc_lex.proofs.Shapes.{shape_of, shape_some}
 
 AreFew : List ℕ → Result (List Token) LexFault → Type 0

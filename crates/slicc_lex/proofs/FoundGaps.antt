@@ -7,10 +7,7 @@ use Rattle.std.proofs.lemmas.List.Sums.{prefix_len-le-length}
 use Rattle.slicc_lex.specs.declared.class.Class.TheVariants.{Blank}
 use Rattle.slicc_lex.specs.declared.fault.LexFault.TheVariants.{BadByte, OpenComment}
 use Rattle.slicc_lex.specs.declared.piece.Piece.TheVariants.{Gap}
-use Rattle.slicc_lex.specs.Pieces.{is_in_line}
-use Rattle.slicc_lex.specs.Tokens.{IsFault}
-use Rattle.slicc_lex.specs.Classes.{class_of}
-use Rattle.slicc_lex.specs.Lexing.{close_len, Stands}
+use Rattle.slicc_lex.specs.Prelude.{is_in_line, IsFault, class_of, close_len, Stands}
 use Rattle.slicc_lex.proofs.Spans.{span_is}
 use Rattle.slicc_lex.proofs.Comments.{closes_after}
 use Rattle.slicc_lex.proofs.Classes.{blank_from}

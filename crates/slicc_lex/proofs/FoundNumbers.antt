@@ -9,10 +9,7 @@ use Rattle.slicc_ast.specs.declared.tree.token.TokenKind.TheVariants.{Number}
 use Rattle.slicc_lex.specs.declared.class.Class.TheVariants.{Digit}
 use Rattle.slicc_lex.specs.declared.fault.LexFault.TheVariants.{NumberTooLarge}
 use Rattle.slicc_lex.specs.declared.piece.Piece.TheVariants.{Lexeme}
-use Rattle.slicc_lex.specs.Numbers.{is_digit, is_hexadecimal, number_of, IsNumeral, AreHexadecimal, IsDecimal}
-use Rattle.slicc_lex.specs.Tokens.{IsFault, IsWithinLimits}
-use Rattle.slicc_lex.specs.Classes.{BeginsWith}
-use Rattle.slicc_lex.specs.Lexing.{hexadecimal_size, Stands}
+use Rattle.slicc_lex.specs.Prelude.{is_digit, is_hexadecimal, number_of, IsNumeral, AreHexadecimal, IsDecimal, IsFault, IsWithinLimits, BeginsWith, hexadecimal_size, Stands}
 use Rattle.slicc_lex.proofs.Spans.{span_is}
 use Rattle.slicc_lex.proofs.Classes.{digit_from, first_from}
 use Rattle.slicc_lex.proofs.Longest.{AreWithin, stands, next_is, hexadecimal_within, decimal_within}

@@ -10,10 +10,7 @@ use Rattle.slicc_ast.specs.declared.tree.token.Sign.TheVariants.{OpenBrace, Clos
 use Rattle.slicc_lex.specs.declared.class.Class.TheVariants.{Other}
 use Rattle.slicc_lex.specs.declared.fault.LexFault.TheVariants.{BadByte}
 use Rattle.slicc_lex.specs.declared.piece.Piece.TheVariants.{Lexeme}
-use Rattle.slicc_lex.specs.Signs.{sign_bytes}
-use Rattle.slicc_lex.specs.Tokens.{IsFault}
-use Rattle.slicc_lex.specs.Classes.{class_of}
-use Rattle.slicc_lex.specs.Lexing.{pair_sign, pair_front, single_sign, Stands}
+use Rattle.slicc_lex.specs.Prelude.{sign_bytes, IsFault, class_of, pair_sign, pair_front, single_sign, Stands}
 use Rattle.slicc_lex.proofs.Comments.{and_false_left}
 use Rattle.slicc_lex.proofs.Classes.{other_from}
 use Rattle.slicc_lex.proofs.Shapes.{mark, shape_class}

@@ -6,14 +6,11 @@ use Rattle.std.proofs.Math.Seq.{take-length}
 use Rattle.std.proofs.lemmas.List.{length-take-le}
 use Rattle.std.proofs.lemmas.List.Sums.{prefix_len-le-length}
 use Rattle.slicc_ast.specs.declared.tree.token.TokenKind.TheVariants.{Quoted}
-use Rattle.slicc_ast.specs.Bytes.{is_printable}
+use Rattle.slicc_ast.specs.Prelude.{is_printable}
 use Rattle.slicc_lex.specs.declared.class.Class.TheVariants.{Quote}
 use Rattle.slicc_lex.specs.declared.fault.LexFault.TheVariants.{BadByte, OpenString}
 use Rattle.slicc_lex.specs.declared.piece.Piece.TheVariants.{Lexeme}
-use Rattle.slicc_lex.specs.Pieces.{is_inside, IsQuotedBy, IsWritten, IsNext}
-use Rattle.slicc_lex.specs.Tokens.{IsFault}
-use Rattle.slicc_lex.specs.Classes.{class_of, is_quote}
-use Rattle.slicc_lex.specs.Lexing.{Stands}
+use Rattle.slicc_lex.specs.Prelude.{is_inside, IsQuotedBy, IsWritten, IsNext, IsFault, class_of, is_quote, Stands}
 use Rattle.slicc_lex.proofs.Spans.{begins, span_is}
 use Rattle.slicc_lex.proofs.Classes.{quote_from}
 use Rattle.slicc_lex.proofs.Longest.{AreWithin, stands, next_is, stuck, quoted_closes}

@@ -6,15 +6,11 @@ use Rattle.std.proofs.lemmas.List.{length-take-le}
 use Rattle.std.proofs.lemmas.List.Sums.{prefix_len-le-length}
 use Rattle.slicc_ast.specs.declared.tree.token.TokenKind.TheVariants.{Name, Word}
 use Rattle.slicc_ast.specs.declared.tree.token.Word.{Word as Reserved}
-use Rattle.slicc_ast.specs.Bytes.{is_letter, is_word_byte}
+use Rattle.slicc_ast.specs.Prelude.{is_letter, is_word_byte}
 use Rattle.slicc_lex.specs.declared.class.Class.TheVariants.{Letter}
 use Rattle.slicc_lex.specs.declared.fault.LexFault.TheVariants.{NameTooLong}
 use Rattle.slicc_lex.specs.declared.piece.Piece.TheVariants.{Lexeme}
-use Rattle.slicc_lex.specs.Words.{word_bytes}
-use Rattle.slicc_lex.specs.Pieces.{IsWord}
-use Rattle.slicc_lex.specs.Tokens.{IsFault}
-use Rattle.slicc_lex.specs.Classes.{BeginsWith}
-use Rattle.slicc_lex.specs.Lexing.{Stands}
+use Rattle.slicc_lex.specs.Prelude.{word_bytes, IsWord, IsFault, BeginsWith, Stands}
 use Rattle.slicc_lex.proofs.Spans.{span_is}
 use Rattle.slicc_lex.proofs.Classes.{letter_from, first_from}
 use Rattle.slicc_lex.proofs.Longest.{AreWithin, stands, next_is, word_within}

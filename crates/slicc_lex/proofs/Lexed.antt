@@ -6,8 +6,7 @@ use Rattle.slicc_lex.specs.declared.token.Token.{Token}
 use Rattle.slicc_lex.specs.declared.fault.LexFault.{LexFault}
 use Rattle.slicc_lex.specs.declared.piece.Piece.{Piece}
 use Rattle.slicc_lex.specs.declared.piece.Piece.TheVariants.{Gap, Lexeme}
-use Rattle.slicc_lex.specs.Tokens.{Reads, ends, skips, takes, stops, IsFault, token_at, with_token}
-use Rattle.slicc_lex.specs.Lexing.{Stands, tokens_of}
+use Rattle.slicc_lex.specs.Prelude.{Reads, ends, skips, takes, stops, IsFault, token_at, with_token, Stands, tokens_of}
 
 -- the answer with these tokens before it
 abbrev pub after : List Token → Result (List Token) LexFault → Result (List Token) LexFault

@@ -3,14 +3,11 @@ use Rattle.std.proofs.Common.{◌≡◌, ◌≢◌, ◌+◌, ◌≤◌, ◌&&◌
 use Rattle.std.specs.List.{prefix_len, list_all}
 use Rattle.std.proofs.lemmas.Bool.{cond-false, and_parts, and_from, or_left, false≢true, ne_eqb}
 use Rattle.std.proofs.lemmas.List.{length-take-le}
-use Rattle.slicc_ast.specs.Bytes.{is_letter, is_word_byte}
+use Rattle.slicc_ast.specs.Prelude.{is_letter, is_word_byte}
 use Rattle.slicc_lex.specs.declared.class.Class.{Class}
 use Rattle.slicc_lex.specs.declared.class.Class.TheVariants.{Blank, Letter, Digit, Quote, Slash}
 use Rattle.slicc_lex.specs.declared.piece.Piece.{Piece}
-use Rattle.slicc_lex.specs.Numbers.{is_digit, is_hexadecimal}
-use Rattle.slicc_lex.specs.Pieces.{is_in_line, is_inside, IsPiece, IsNext, IsStuck}
-use Rattle.slicc_lex.specs.Classes.{class_of}
-use Rattle.slicc_lex.specs.Lexing.{hexadecimal_size, close_len, IsPieceWithinLimits, Stands}
+use Rattle.slicc_lex.specs.Prelude.{is_digit, is_hexadecimal, is_in_line, is_inside, IsPiece, IsNext, IsStuck, class_of, hexadecimal_size, close_len, IsPieceWithinLimits, Stands}
 use Rattle.slicc_lex.proofs.Comments.{close_at, and_false_right}
 use Rattle.slicc_lex.proofs.Spans.{front_within, len_span}
 use Rattle.slicc_lex.proofs.Shapes.{Shape, blank, line, block, word, decimal, hexadecimal, quoted, shape_of, shape_class, first_class, class_is}

@@ -2,7 +2,7 @@
 use Rattle.std.proofs.Common.{◌≡◌, ◌+◌, ◌*◌, ◌<◌, ◌≤◌, ℕ, List, [], ◌∷◌, take, drop, sym, ap, ◌∙◌, arith, fold, length, get_or, take-append-drop, subst}
 use Rattle.std.proofs.Math.Nat.{le_trans, le-mul_of_pos_right}
 use Rattle.std.proofs.lemmas.List.Sums.{fold_more, fold-append}
-use Rattle.slicc_lex.specs.Numbers.{digit_value, number_of}
+use Rattle.slicc_lex.specs.Prelude.{digit_value, number_of}
 
 -- a further digit
 abbrev pub further : ℕ → ℕ → ℕ → ℕ

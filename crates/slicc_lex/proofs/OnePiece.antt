@@ -11,10 +11,7 @@ use Rattle.slicc_lex.specs.declared.class.Class.{Class}
 use Rattle.slicc_lex.specs.declared.class.Class.TheVariants.{Blank, Letter, Digit, Quote, Slash, Other}
 use Rattle.slicc_lex.specs.declared.piece.Piece.{Piece}
 use Rattle.slicc_lex.specs.declared.piece.Piece.TheVariants.{Gap, Lexeme}
-use Rattle.slicc_lex.specs.Words.{word_bytes}
-use Rattle.slicc_lex.specs.Signs.{sign_bytes}
-use Rattle.slicc_lex.specs.Numbers.{is_digit, IsNumeral, IsDecimal, AreHexadecimal, number_of}
-use Rattle.slicc_lex.specs.Pieces.{IsWord, IsQuotedBy, IsWritten, IsPiece, IsNext}
+use Rattle.slicc_lex.specs.Prelude.{word_bytes, sign_bytes, is_digit, IsNumeral, IsDecimal, AreHexadecimal, number_of, IsWord, IsQuotedBy, IsWritten, IsPiece, IsNext}
 use Rattle.slicc_lex.proofs.Words.{one_word}
 use Rattle.slicc_lex.proofs.Shapes.{first_class, blank_class, letter_class, digit_class, sign_class, word_is_word}
 use Rattle.slicc_lex.proofs.FoundSigns.{one_sign}

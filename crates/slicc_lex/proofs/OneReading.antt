@@ -5,14 +5,13 @@ use Rattle.std.proofs.lemmas.Bool.{and_parts, false≢true, or_cases}
 use Rattle.std.proofs.lemmas.Int.{ints}
 use Rattle.slicc_ast.specs.declared.tree.token.TokenKind.{TokenKind}
 use Rattle.slicc_ast.specs.declared.tree.token.TokenKind.TheVariants.{Name, Number, Quoted}
-use Rattle.slicc_ast.specs.Bytes.{is_printable}
+use Rattle.slicc_ast.specs.Prelude.{is_printable}
 use Rattle.slicc_lex.specs.declared.token.Token.{Token}
 use Rattle.slicc_lex.specs.declared.fault.LexFault.{LexFault}
 use Rattle.slicc_lex.specs.declared.fault.LexFault.TheVariants.{BadByte, OpenString, OpenComment, NumberTooLarge, NameTooLong, NoMemory}
 use Rattle.slicc_lex.specs.declared.piece.Piece.{Piece}
 use Rattle.slicc_lex.specs.declared.piece.Piece.TheVariants.{Gap, Lexeme}
-use Rattle.slicc_lex.specs.Pieces.{IsNext, IsStuck, IsPiece}
-use Rattle.slicc_lex.specs.Tokens.{Reads, ends, skips, takes, stops, IsFault, IsBadInside, IsWithinLimits, token_at, with_token, begins_with_quote, begins_with_comment}
+use Rattle.slicc_lex.specs.Prelude.{IsNext, IsStuck, IsPiece, Reads, ends, skips, takes, stops, IsFault, IsBadInside, IsWithinLimits, token_at, with_token, begins_with_quote, begins_with_comment}
 use Rattle.slicc_lex.proofs.Spans.{len_span}
 use Rattle.slicc_lex.proofs.Shapes.{shape_of, shape_some}
 use Rattle.slicc_lex.proofs.OnePiece.{one_front}

@@ -5,13 +5,10 @@ use Rattle.slicc_ast.specs.declared.tree.token.TokenKind.TheVariants.{End}
 use Rattle.slicc_ast.specs.declared.tree.expression.Expr.{Expr}
 use Rattle.slicc_ast.specs.declared.tree.item.Tree.{Tree}
 use Rattle.slicc_ast.specs.declared.tree.statement.Block.{Block}
-use Rattle.slicc_ast.specs.Outline.{kinds_in, shape_of}
-use Rattle.slicc_ast.specs.Expressions.{expr}
-use Rattle.slicc_ast.specs.Statements.{block_outline}
-use Rattle.slicc_ast.specs.Trees.{tree, tree_parts}
+use Rattle.slicc_ast.specs.Prelude.{kinds_in, shape_of, expr, block_outline, tree, tree_parts}
 use Rattle.slicc_ast.proofs.OneTree.{one_tree, one_block, one_expression}
 use Rattle.slicc_lex.specs.declared.token.Token.{Token}
-use Rattle.slicc_lex.specs.Spells.{Spells, SpellsNode, token_kinds}
+use Rattle.slicc_lex.specs.Prelude.{Spells, SpellsNode, token_kinds}
 
 -- the kinds of a file's tokens are those of its tree and the end's
 kinds_of_file : (t : Tree) (tokens : List Token) → Spells t tokens → token_kinds tokens ≡ kinds_in (tree_parts t) ++ End ∷ []

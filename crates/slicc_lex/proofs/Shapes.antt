@@ -7,16 +7,12 @@ use Rattle.slicc_ast.specs.declared.tree.token.Word.{Word as Reserved}
 use Rattle.slicc_ast.specs.declared.tree.token.Word.TheVariants.{Protocol, Include, Machine, Enumeration, StateDeclaration, Structure, InPort, OutPort, Action, Transition, Peek, Enqueue, StallAndWait, CheckAllocate, If, Else, Return, True, False, Ood, New, IsValid, IsInvalid, StaticCast, Error, Assert, Dprintf, AppendTransitionComment, While}
 use Rattle.slicc_ast.specs.declared.tree.token.Sign.{Sign as SignKind}
 use Rattle.slicc_ast.specs.declared.tree.token.Sign.TheVariants.{OpenBrace, CloseBrace, OpenParenthesis, CloseParenthesis, OpenBracket, CloseBracket, Semicolon, Colon, Comma, Dot, Equals, Assign, Equal, Unequal, Less, Greater, LessOrEqual, GreaterOrEqual, Plus, Minus, Star, Not, And, Or}
-use Rattle.slicc_ast.specs.Bytes.{is_blank, is_letter, is_word_byte}
+use Rattle.slicc_ast.specs.Prelude.{is_blank, is_letter, is_word_byte}
 use Rattle.slicc_lex.specs.declared.class.Class.{Class}
 use Rattle.slicc_lex.specs.declared.class.Class.TheVariants.{Blank, Letter, Digit, Quote, Slash, Other}
 use Rattle.slicc_lex.specs.declared.piece.Piece.{Piece}
 use Rattle.slicc_lex.specs.declared.piece.Piece.TheVariants.{Gap, Lexeme}
-use Rattle.slicc_lex.specs.Words.{word_bytes}
-use Rattle.slicc_lex.specs.Signs.{sign_bytes}
-use Rattle.slicc_lex.specs.Numbers.{is_digit, is_hexadecimal, IsNumeral}
-use Rattle.slicc_lex.specs.Pieces.{is_in_line, is_inside, has_close, IsPiece, IsQuotedBy, IsWord}
-use Rattle.slicc_lex.specs.Classes.{class_of, is_quote}
+use Rattle.slicc_lex.specs.Prelude.{word_bytes, sign_bytes, is_digit, is_hexadecimal, IsNumeral, is_in_line, is_inside, has_close, IsPiece, IsQuotedBy, IsWord, class_of, is_quote}
 
 -- the shape of a piece, by its bytes
 pub data Shape : List ℕ → Type 0 where

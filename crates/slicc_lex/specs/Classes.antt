@@ -1,6 +1,6 @@
 -- What a piece of a text can be by its first byte.
 use Rattle.std.specs.Prelude.{◌≡◌, ◌==◌, ◌||◌, ℕ, Bool, cond, List, [], ◌∷◌}
-use Rattle.slicc_ast.specs.Bytes.{is_blank, is_letter}
+use Rattle.slicc_ast.specs.Prelude.{is_blank, is_letter}
 use Rattle.slicc_lex.specs.declared.class.Class.{Class}
 use Rattle.slicc_lex.specs.declared.class.Class.TheVariants.{Blank, Letter, Digit, Quote, Slash, Other}
 use Rattle.slicc_lex.specs.Numbers.{is_digit}

@@ -8,3 +8,4 @@ pub mod Syntax
 pub mod Places
 pub mod Classes
 pub mod Lexing
+pub mod Prelude

@@ -1,7 +1,7 @@
 -- The numbers of SLICC: decimal digits, or `0x` and hexadecimal ones, which may be letters of either case.
 use Rattle.std.specs.Prelude.{◌≡◌, ◌⊎◌, ◌+◌, ◌-◌, ◌*◌, ◌++◌, ◌||◌, ℕ, Bool, cond, nat_le, IsTrue, List, [], ◌∷◌, fold, codes}
 use Rattle.std.specs.List.{list_all}
-use Rattle.slicc_ast.specs.Bytes.{is_between}
+use Rattle.slicc_ast.specs.Prelude.{is_between}
 
 abbrev pub is_digit : ℕ → Bool
 is_digit c = is_between 48 57 c

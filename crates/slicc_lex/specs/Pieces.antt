@@ -5,7 +5,7 @@ use Rattle.std.specs.List.{list_all}
 use Rattle.slicc_ast.specs.declared.tree.token.TokenKind.{TokenKind}
 use Rattle.slicc_ast.specs.declared.tree.token.TokenKind.TheVariants.{Name, Number, Quoted, Word, Sign, End}
 use Rattle.slicc_ast.specs.declared.tree.token.Word.{Word as Reserved}
-use Rattle.slicc_ast.specs.Bytes.{is_blank, is_letter, is_word_byte}
+use Rattle.slicc_ast.specs.Prelude.{is_blank, is_letter, is_word_byte}
 use Rattle.slicc_lex.specs.declared.piece.Piece.{Piece}
 use Rattle.slicc_lex.specs.declared.piece.Piece.TheVariants.{Gap, Lexeme}
 use Rattle.slicc_lex.specs.Words.{word_bytes}

@@ -6,8 +6,7 @@ use Rattle.slicc_ast.specs.declared.tree.span.Span.{Span}
 use Rattle.slicc_ast.specs.declared.tree.token.TokenKind.{TokenKind}
 use Rattle.slicc_ast.specs.declared.tree.token.TokenKind.TheVariants.{End}
 use Rattle.slicc_ast.specs.declared.tree.item.Tree.{Tree}
-use Rattle.slicc_ast.specs.Outline.{Outline, kinds_of, kinds_in, is_allowed, are_allowed, covering, IsPlaced, ArePlaced}
-use Rattle.slicc_ast.specs.Trees.{tree_parts}
+use Rattle.slicc_ast.specs.Prelude.{Outline, kinds_of, kinds_in, is_allowed, are_allowed, covering, IsPlaced, ArePlaced, tree_parts}
 use Rattle.slicc_lex.specs.declared.token.Token.{Token}
 
 abbrev pub token_kinds : List Token → List TokenKind

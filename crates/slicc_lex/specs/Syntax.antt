@@ -4,12 +4,7 @@
 -- cases of `IsStop`, with as many nestings allowed as are left of 64.
 use Rattle.std.specs.Prelude.{◌≡◌, ◌+◌, ◌-◌, ◌++◌, ℕ, List, [], ◌∷◌, length, map, drop}
 use Rattle.slicc_ast.specs.declared.tree.token.TokenKind.TheVariants.{End}
-use Rattle.slicc_ast.specs.Outline.{Outline}
-use Rattle.slicc_ast.specs.Faults.{IsFirstFault, Stop}
-use Rattle.slicc_ast.specs.Faults.Stop.{Passed, Bad, Deep}
-use Rattle.slicc_ast.specs.Form.{Form}
-use Rattle.slicc_ast.specs.TokenKinds.{kind_of}
-use Rattle.slicc_ast.specs.Written.{written}
+use Rattle.slicc_ast.specs.Prelude.{Outline, IsFirstFault, Stop, Passed, Bad, Deep, Form, kind_of, written}
 use Rattle.slicc_lex.specs.declared.token.Token.{Token}
 use Rattle.slicc_lex.specs.Spells.{SpellsNode}
 

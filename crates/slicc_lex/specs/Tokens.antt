@@ -4,7 +4,7 @@ use Rattle.std.specs.Prelude.{◌≡◌, ◌≢◌, ◌⊎◌, ◌+◌, ◌^◌,
 use Rattle.std.specs.List.{list_all, starts_with}
 use Rattle.slicc_ast.specs.declared.tree.token.TokenKind.{TokenKind}
 use Rattle.slicc_ast.specs.declared.tree.token.TokenKind.TheVariants.{Name, Number, Quoted, Word, Sign, End}
-use Rattle.slicc_ast.specs.Bytes.{is_printable}
+use Rattle.slicc_ast.specs.Prelude.{is_printable}
 use Rattle.slicc_lex.specs.declared.token.Token.{Token}
 use Rattle.slicc_lex.specs.declared.fault.LexFault.{LexFault}
 use Rattle.slicc_lex.specs.declared.fault.LexFault.TheVariants.{BadByte, OpenString, OpenComment, NumberTooLarge, NameTooLong, NoMemory}

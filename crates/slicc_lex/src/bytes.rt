@@ -1,9 +1,7 @@
 ghost use Rattle.std.specs.Prelude.{◌≡◌, ◌≤◌, length};
 ghost use Rattle.std.specs.List.{prefix_len, suffix_len};
-ghost use Rattle.slicc_ast.specs.Bytes.{is_blank, is_letter, is_word_byte, is_printable};
-ghost use Rattle.slicc_lex.specs.Numbers.{is_digit, is_hexadecimal};
-ghost use Rattle.slicc_lex.specs.Pieces.{is_in_line, is_inside};
-ghost use Rattle.slicc_lex.specs.Classes.{is_quote};
+ghost use Rattle.slicc_ast.specs.Prelude.{is_blank, is_letter, is_word_byte, is_printable};
+ghost use Rattle.slicc_lex.specs.Prelude.{is_digit, is_hexadecimal, is_in_line, is_inside, is_quote};
 
 /// Whether the byte is a space, a tab, a carriage return or a line feed.
 pub fn is_blank(byte: u8) -> bool

@@ -1,5 +1,5 @@
 ghost use Rattle.std.specs.Prelude.{◌≡◌};
-ghost use Rattle.slicc_lex.specs.Lexing.{close_len};
+ghost use Rattle.slicc_lex.specs.Prelude.{close_len};
 
 /// How many bytes there are up to the first `*/`, these two included.
 pub fn close_len(bytes: &[u8]) -> Option<usize>

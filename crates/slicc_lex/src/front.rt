@@ -1,7 +1,6 @@
 ghost use Rattle.std.specs.Prelude.{◌≡◌, ◌+◌, ◌^◌, ◌<◌, ◌≤◌, ◌∷◌, [], length, MatchOption};
 ghost use Rattle.slicc_lex.specs.declared.class.Class.TheVariants.{Letter, Digit, Quote, Slash, Other};
-ghost use Rattle.slicc_lex.specs.Classes.{BeginsWith, class_of};
-ghost use Rattle.slicc_lex.specs.Lexing.{Finds, hexadecimal_size, pair_front};
+ghost use Rattle.slicc_lex.specs.Prelude.{BeginsWith, class_of, Finds, hexadecimal_size, pair_front};
 
 use crate::bytes::{digit_len, hexadecimal_len, inside_len, line_len, printable_len, word_len};
 use crate::class::{Class, class_of};

@@ -1,7 +1,6 @@
 ghost use Rattle.std.specs.Prelude.{◌≡◌, ◌⊎◌, ◌≤◌, ◌++◌, length, Ok, Err, OnOk, MatchResult};
 ghost use Rattle.slicc_lex.specs.declared.fault.LexFault.TheVariants.{NoMemory as OutOfMemory};
-ghost use Rattle.slicc_lex.specs.Tokens.{Reads};
-ghost use Rattle.slicc_lex.specs.Lexing.{tokens_of};
+ghost use Rattle.slicc_lex.specs.Prelude.{Reads, tokens_of};
 
 use crate::front::front;
 use crate::piece::Piece;

@@ -1,5 +1,5 @@
 ghost use Rattle.std.specs.Prelude.{◌≡◌, ◌^◌, ◌<◌, ◌≤◌, pos, MatchOption};
-ghost use Rattle.slicc_lex.specs.Numbers.{digit_value, number_of};
+ghost use Rattle.slicc_lex.specs.Prelude.{digit_value, number_of};
 
 /// The largest number that a text may have.
 const LARGEST: u64 = 0x7fff_ffff_ffff_ffff;

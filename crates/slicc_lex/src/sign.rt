@@ -1,5 +1,5 @@
 ghost use Rattle.std.specs.Prelude.{◌≡◌};
-ghost use Rattle.slicc_lex.specs.Lexing.{pair_sign, single_sign};
+ghost use Rattle.slicc_lex.specs.Prelude.{pair_sign, single_sign};
 
 use crate::Sign;
 

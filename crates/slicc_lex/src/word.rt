@@ -1,7 +1,7 @@
 ghost use Rattle.std.specs.Prelude.{◌≡◌, ◌≢◌, MatchOption, find};
 ghost use Rattle.std.specs.Str.{bytes_eq};
-ghost use Rattle.slicc_ast.specs.declared.tree.token.Word.{Word as Reserved};
-ghost use Rattle.slicc_lex.specs.Words.{word_bytes};
+ghost use Rattle.slicc_ast.specs.declared.tree.token.Word.{Word};
+ghost use Rattle.slicc_lex.specs.Prelude.{word_bytes};
 
 use crate::Word;
 
@@ -89,7 +89,7 @@ fn first_of(words: &[Word], text: &[u8]) -> Option<Word>
 
 /// The reserved word that a text is, if it is one.
 pub fn reserved(text: &[u8]) -> Option<Word>
-    ensures { MatchOption result ((word : Reserved) → text.now ≢ word_bytes word) (λ word. text.now ≡ word_bytes word) }
+    ensures { MatchOption result ((word : Word) → text.now ≢ word_bytes word) (λ word. text.now ≡ word_bytes word) }
 {
     first_of(&WORDS, text)
 }

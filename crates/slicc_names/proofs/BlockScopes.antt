@@ -4,9 +4,8 @@ use Rattle.slicc_ast.specs.declared.tree.statement.Block.{Block}
 use Rattle.slicc_ast.specs.declared.tree.statement.If.{If, If', None', Some', Row_of-ElseIf, end_of-ElseIf, more_of-ElseIf, items-the_row-ElseIf, out-If}
 use Rattle.slicc_ast.specs.declared.tree.statement.Stmt.{Row_of-Stmt, end_of-Stmt, more_of-Stmt, items-the_row-Stmt}
 use Rattle.slicc_ast.specs.declared.tree.statement.Stmt.TheViews.{the_lemmas}
-use Rattle.slicc_plan.specs.Blocks.{blocks_in, body_scopes, if_blocks, local_of, others_blocks, row_blocks, row_locals}
-use Rattle.slicc_plan.specs.Declarations.{Declaration}
-use Rattle.slicc_names.specs.Repeated.{else_if_scopes}
+use Rattle.slicc_plan.specs.Prelude.{blocks_in, body_scopes, if_blocks, local_of, others_blocks, row_blocks, row_locals, Declaration}
+use Rattle.slicc_names.specs.Prelude.{else_if_scopes}
 
 pub locals_of_row : (n : _) (row : Row_of-Stmt n) → row_locals row ≡ flat_map local_of (items-the_row-Stmt n row)
 locals_of_row n end_of-Stmt = refl

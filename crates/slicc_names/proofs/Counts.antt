@@ -4,9 +4,8 @@ use Rattle.std.proofs.Math.Seq.{take-suc}
 use Rattle.std.proofs.lemmas.Grind.{flat_map-append}
 use Rattle.std.proofs.lemmas.List.{map-append, take_all}
 use Rattle.slicc_ast.specs.declared.tree.span.Span.{Span}
-use Rattle.slicc_plan.specs.Declarations.{Declaration, place_of}
-use Rattle.slicc_plan.specs.Limits.{beyond}
-use Rattle.slicc_names.specs.Counting.{found_after, found_next, place_if, told_found}
+use Rattle.slicc_plan.specs.Prelude.{Declaration, place_of, beyond}
+use Rattle.slicc_names.specs.Prelude.{found_after, found_next, place_if, told_found}
 use Rattle.slicc_names.specs.declared.count.Found.{Found}
 use Rattle.slicc_names.specs.declared.count.Found.TheVariants.{At, Left}
 

@@ -2,11 +2,11 @@
 use Rattle.std.proofs.Common.{◌≡◌, [], false, cond, filter, flat_map, map, sym, ap, ◌∙◌}
 use Rattle.std.proofs.lemmas.List.Folds.{flat_map-map}
 use Rattle.slicc_ast.specs.declared.tree.declaration.Structure.{Structure}
-use Rattle.slicc_plan.specs.Declarations.{member, structure, is_external}
-use Rattle.slicc_plan.specs.Limits.{beyond, fields_in, is_field, most_fields}
+use Rattle.slicc_plan.specs.Declarations.{structure}
+use Rattle.slicc_plan.specs.Prelude.{member, is_external, beyond, fields_in, is_field, most_fields}
 use Rattle.slicc_names.proofs.Counts.{beyond_passing}
 use Rattle.slicc_names.specs.declared.count.Found.TheVariants.{Left}
-use Rattle.slicc_names.specs.Counting.{field_places, found_after, place_if, told_found}
+use Rattle.slicc_names.specs.Prelude.{field_places, found_after, place_if, told_found}
 
 pub fields_of : (s : Structure) → is_external s ≡ false → told_found (found_after (Left most_fields) (flat_map field_places s.members)) ≡ beyond most_fields (fields_in (structure s))
 fields_of s here =

@@ -1,7 +1,7 @@
 -- The first of what is broken in declarations, list by list.
 use Rattle.std.proofs.Common.{◌≡◌, ◌++◌, Option, None, Some, List, [], sym, subst}
 use Rattle.slicc_plan.specs.declared.broken.Broken.{Broken}
-use Rattle.slicc_plan.specs.Order.{IsFirstBroken, IsFirstOf, first_after, first_of}
+use Rattle.slicc_plan.specs.Prelude.{IsFirstBroken, IsFirstOf, first_after, first_of}
 use Rattle.slicc_plan.proofs.Firsts.{first_after-append, first_after_none}
 
 pub lists_in_a_row : (first : Option Broken) (bs cs : List Broken) → first_after first (bs ++ cs) ≡ first_after (first_after first bs) cs

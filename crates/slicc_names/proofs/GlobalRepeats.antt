@@ -5,11 +5,10 @@ use Rattle.std.proofs.lemmas.List.{map-append}
 use Rattle.slicc_ast.specs.declared.tree.name.Name.{Name}
 use Rattle.slicc_plan.proofs.Firsts.{first_after-append}
 use Rattle.slicc_plan.specs.declared.broken.Broken.{Broken}
-use Rattle.slicc_plan.specs.Declarations.{Declaration, name_of}
-use Rattle.slicc_plan.specs.Order.{first_after}
-use Rattle.slicc_plan.specs.TwiceDeclared.{declaration_told, first_with, globally_repeated_after, listed, names_of, takes_built_in_name, told_globally, told_with}
+use Rattle.slicc_plan.specs.Prelude.{Declaration, name_of, first_after, declaration_told, first_with, globally_repeated_after, takes_built_in_name, told_globally}
+use Rattle.slicc_plan.specs.TwiceDeclared.{listed, names_of, told_with}
 use Rattle.slicc_names.proofs.Repeats.{found_behind, names_of-append}
-use Rattle.slicc_names.specs.Lookups.{FindSame}
+use Rattle.slicc_names.specs.Prelude.{FindSame}
 
 pub globally-append : (bs : List Name) (ds es : List Declaration) → globally_repeated_after bs (ds ++ es) ≡ globally_repeated_after bs ds ++ globally_repeated_after (bs ++ names_of ds) es
 globally-append bs [] es = ap (λ cs. globally_repeated_after cs es) (sym (append-nil bs))

@@ -6,10 +6,9 @@ use Rattle.slicc_ast.specs.declared.tree.statement.ElseIf.{ElseIf}
 use Rattle.slicc_ast.specs.declared.tree.statement.If.{If, If', None', Some', Row_of-ElseIf, end_of-ElseIf, more_of-ElseIf, items-the_row-ElseIf, out-If}
 use Rattle.slicc_ast.specs.declared.tree.statement.Stmt.{Row_of-Stmt, end_of-Stmt, more_of-Stmt, items-the_row-Stmt}
 use Rattle.slicc_ast.specs.declared.tree.statement.Stmt.TheViews.{the_lemmas}
-use Rattle.slicc_plan.specs.Blocks.{all_row_locals, body_locals, if_locals, locals_in, others_locals}
-use Rattle.slicc_plan.specs.Declarations.{Declaration, place_of}
+use Rattle.slicc_plan.specs.Prelude.{all_row_locals, body_locals, if_locals, locals_in, others_locals, Declaration, place_of}
 use Rattle.slicc_names.proofs.Counts.{map_flat}
-use Rattle.slicc_names.specs.Counting.{else_if_places, local_places}
+use Rattle.slicc_names.specs.Prelude.{else_if_places, local_places}
 
 pub all_of_row : (n : _) (row : Row_of-Stmt n) → all_row_locals row ≡ flat_map locals_in (items-the_row-Stmt n row)
 all_of_row n end_of-Stmt = refl

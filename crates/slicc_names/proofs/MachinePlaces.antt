@@ -6,15 +6,13 @@ use Rattle.slicc_ast.specs.declared.tree.item.Tree.{Tree}
 use Rattle.slicc_ast.specs.declared.tree.machine.Machine.{Machine}
 use Rattle.slicc_plan.proofs.Firsts.{first_after-append}
 use Rattle.slicc_plan.specs.declared.broken.Broken.{Broken}
-use Rattle.slicc_plan.specs.Declarations.{Declaration, machine, enumeration, structure, states, parameter, object, out_port, in_port, action, function, symbol, state, member, formal, local, Scope, within, declared_in, global_declarations, machine_declarations, named_declarations, wide_scopes}
-use Rattle.slicc_plan.specs.Limits.{all_declarations, beyond, beyond_in_body, beyond_in_declaration, beyond_in_machine, beyond_in_scope, is_action, is_counted_function, is_counted_structure, is_enumeration, is_events, is_machine, is_object, is_port, is_sequencer, is_states, limits_passed, machine_limits, members_of_found, most_machines, most_objects, most_of_each, most_ports, most_sequencers, most_structures, with_its_own}
-use Rattle.slicc_plan.specs.Order.{first_after}
-use Rattle.slicc_plan.specs.Scopes.{bodies_in, machine_bodies}
+use Rattle.slicc_plan.specs.Declarations.{enumeration, structure, out_port, in_port}
+use Rattle.slicc_plan.specs.Prelude.{Declaration, machine, states, parameter, object, action, function, symbol, state, member, formal, local, Scope, within, declared_in, global_declarations, machine_declarations, named_declarations, wide_scopes, all_declarations, beyond, beyond_in_body, beyond_in_declaration, beyond_in_machine, beyond_in_scope, is_action, is_counted_function, is_counted_structure, is_enumeration, is_events, is_machine, is_object, is_port, is_sequencer, is_states, limits_passed, machine_limits, members_of_found, most_machines, most_objects, most_of_each, most_ports, most_sequencers, most_structures, with_its_own, first_after, bodies_in, machine_bodies}
 use Rattle.slicc_names.proofs.Counts.{beyond_passing}
 use Rattle.slicc_names.proofs.Parts.{flat_flat}
-use Rattle.slicc_names.specs.Counting.{decl_places, found_after, if_counted, is_of_kind, is_sequencer_in, told_found, kind_limits, limits_of, parameter_places, with_its_own_places}
+use Rattle.slicc_names.specs.Prelude.{decl_places, found_after, if_counted, is_of_kind, is_sequencer_in, told_found, kind_limits, limits_of, parameter_places, with_its_own_places}
 use Rattle.slicc_names.specs.declared.count.Found.TheVariants.{Left}
-use Rattle.slicc_names.specs.declared.kinds.Kind.{Kind}
+use Rattle.slicc_names.specs.declared.count.Kind.{Kind}
 
 pub machine_places : (kind : Kind) (m : Machine) → flat_map (if_counted kind) (machine_declarations m) ≡ flat_map (parameter_places kind) m.parameters ++ flat_map (decl_places kind) m.declarations
 machine_places kind m =

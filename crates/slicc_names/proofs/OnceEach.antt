@@ -9,12 +9,12 @@ use Rattle.std.specs.Cmp.Lexicographic.{nat_list_eq_equiv}
 use Rattle.std.specs.List.{IsDistinct, list_any}
 use Rattle.std.specs.Str.{bytes_eq}
 use Rattle.slicc_ast.specs.declared.tree.name.Name.{Name}
-use Rattle.ruby_base.specs.Numbering.{AreDistinct, is_name, number_among, with_name}
-use Rattle.slicc_plan.specs.Declarations.{Declaration, is_named, is_text, name_of}
+use Rattle.ruby_base.specs.Prelude.{AreDistinct, is_name, number_among, with_name}
+use Rattle.slicc_plan.specs.Prelude.{Declaration, is_named, is_text, name_of}
 use Rattle.slicc_plan.specs.TwiceDeclared.{listed, names_of}
 use Rattle.declared_types.proofs.Index.{any_named, number_among-within}
 use Rattle.declared_types.proofs.NameParts.{list_any_same}
-use Rattle.slicc_names.specs.Names.{once_each, short_number, texts_declared}
+use Rattle.slicc_names.specs.Prelude.{once_each, short_number, texts_declared}
 
 same : (q : List ℕ) (names : List (List ℕ)) → list_any (bytes_eq q) names ≡ list_any (is_name q) names
 same q names = list_any_same (bytes_eq q) (is_name q) names (nat_list_eq_equiv.symm q)

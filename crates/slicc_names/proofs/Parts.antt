@@ -9,10 +9,8 @@ use Rattle.slicc_ast.specs.declared.tree.declaration.Symbol.{Symbol}
 use Rattle.slicc_ast.specs.declared.tree.item.Tree.{Tree}
 use Rattle.slicc_ast.specs.declared.tree.machine.Machine.{Machine}
 use Rattle.slicc_ast.specs.declared.tree.machine.Parameter.{Parameter}
-use Rattle.slicc_names.specs.Declaring.{one_formal, one_member, one_parameter, one_state, one_symbol}
-use Rattle.slicc_names.specs.Repeated.{decl_scopes, tree_scopes}
-use Rattle.slicc_plan.specs.Declarations.{formal, item_declarations, machine_declarations, member, named_declarations, parameter, state, symbol}
-use Rattle.slicc_plan.specs.Scopes.{global_scopes, inner_scopes, scopes_within}
+use Rattle.slicc_names.specs.Prelude.{one_formal, one_member, one_parameter, one_state, one_symbol, decl_scopes, tree_scopes}
+use Rattle.slicc_plan.specs.Prelude.{formal, item_declarations, machine_declarations, member, named_declarations, parameter, state, symbol, global_scopes, inner_scopes, scopes_within}
 
 pub each_symbol : (xs : List Symbol) → flat_map one_symbol xs ≡ map symbol xs
 each_symbol xs = flat_map_single symbol xs

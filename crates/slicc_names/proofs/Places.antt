@@ -9,8 +9,8 @@ use Rattle.std.specs.Str.{bytes_eq}
 use Rattle.indexmap.specs.IndexMap.{insert_entry}
 use Rattle.slicc_ast.specs.declared.tree.name.Name.{Name}
 use Rattle.slicc_ast.specs.declared.tree.span.Span.{Span}
-use Rattle.slicc_plan.specs.TwiceDeclared.{first_with}
-use Rattle.slicc_names.specs.Lookups.{FindSame}
+use Rattle.slicc_plan.specs.Prelude.{first_with}
+use Rattle.slicc_names.specs.Prelude.{FindSame}
 
 has_text : List ℕ → Name → Bool
 has_text text n = bytes_eq n.text text

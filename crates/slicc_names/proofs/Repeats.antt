@@ -8,10 +8,9 @@ use Rattle.std.specs.Str.{bytes_eq}
 use Rattle.slicc_ast.specs.declared.tree.name.Name.{Name}
 use Rattle.slicc_plan.proofs.Firsts.{first_after-append}
 use Rattle.slicc_plan.specs.declared.broken.Broken.{Broken}
-use Rattle.slicc_plan.specs.Declarations.{Declaration, name_of}
-use Rattle.slicc_plan.specs.Order.{first_after}
-use Rattle.slicc_plan.specs.TwiceDeclared.{first_with, listed, names_of, repeated, repeated_after, told_after, told_with}
-use Rattle.slicc_names.specs.Lookups.{FindSame}
+use Rattle.slicc_plan.specs.Prelude.{Declaration, name_of, first_after, first_with, repeated, repeated_after, told_after}
+use Rattle.slicc_plan.specs.TwiceDeclared.{listed, names_of, told_with}
+use Rattle.slicc_names.specs.Prelude.{FindSame}
 
 pub same_behind : (bs cs xs : List Name) → FindSame bs cs → FindSame (bs ++ xs) (cs ++ xs)
 same_behind bs cs xs h text =

@@ -11,7 +11,7 @@ use Rattle.std.proofs.lemmas.Slice.Eq.{bytes_eq-Decides}
 use Rattle.std.specs.Cmp.Lexicographic.{nat_list_eq_equiv}
 use Rattle.std.specs.List.{list_any}
 use Rattle.std.specs.Str.{bytes_eq}
-use Rattle.slicc_ast.specs.declared.tree.declaration.Function.TheVariants.{Skipped as SkippedFunction}
+use Rattle.slicc_ast.specs.declared.tree.declaration.Function.TheVariants.{Skipped}
 use Rattle.slicc_ast.specs.declared.tree.declaration.Structure.{Structure}
 use Rattle.slicc_ast.specs.declared.tree.item.Item.{Item}
 use Rattle.slicc_ast.specs.declared.tree.item.Item.TheVariants as item
@@ -20,22 +20,16 @@ use Rattle.slicc_ast.specs.declared.tree.machine.Decl.{Decl}
 use Rattle.slicc_ast.specs.declared.tree.machine.Decl.TheVariants as decl
 use Rattle.slicc_ast.specs.declared.tree.machine.Machine.{Machine}
 use Rattle.slicc_ast.specs.declared.tree.machine.Parameter.{Parameter}
-use Rattle.slicc_ast.specs.Declarations.{is_skipped}
+use Rattle.slicc_ast.specs.Prelude.{is_skipped, decl as decl_outline, decl_list, parameter_list, type_parts, Parts, are_allowed, is_allowed, item_list, protocol_parts, tree}
 use Rattle.slicc_ast.specs.declared.tree.span.Span.{Span}
-use Rattle.slicc_ast.specs.Machines.{decl as decl_outline, decl_list, machine as machine_outline, parameter as parameter_outline, parameter_list, type_parts}
-use Rattle.slicc_ast.specs.Outline.{Parts, are_allowed, is_allowed}
-use Rattle.slicc_ast.specs.Trees.{item as item_outline, item_list, protocol_parts, tree}
-use Rattle.ruby_base.specs.Numbering.{is_name, number_among}
-use Rattle.slicc_plan.specs.BrokenDeclarations.{broken_declarations}
-use Rattle.slicc_plan.specs.BuiltIn.{NamedType, built_in_types}
-use Rattle.slicc_plan.specs.Declarations.{Declaration, machine, enumeration, structure, parameter, function, Scope, everywhere, within, declared_in, global_declarations, is_external, is_named, item_declarations, machine_declarations, machine_in, machine_names, machines_of, named_declarations, first_named, wide_scopes}
-use Rattle.slicc_plan.specs.Limits.{all_declarations, beyond_in_declaration, beyond_in_machine, beyond_in_scope, is_action, is_counted_function, is_counted_structure, is_enumeration, is_machine, is_object, is_port, limit_passed, limits_passed, with_its_own}
-use Rattle.slicc_plan.specs.Prototypes.{told_unless, unknown_built_in, unknown_built_ins_in, unknown_structure}
-use Rattle.slicc_plan.specs.Types.{table_named, table_or_none}
+use Rattle.slicc_ast.specs.Machines.{machine as machine_outline, parameter as parameter_outline}
+use Rattle.slicc_ast.specs.Trees.{item as item_outline}
+use Rattle.ruby_base.specs.Prelude.{is_name, number_among}
+use Rattle.slicc_plan.specs.Prelude.{broken_declarations, NamedType, built_in_types, Declaration, machine, parameter, function, Scope, everywhere, within, declared_in, global_declarations, is_external, is_named, item_declarations, machine_declarations, machine_in, machine_names, machines_of, named_declarations, first_named, wide_scopes, all_declarations, beyond_in_declaration, beyond_in_machine, beyond_in_scope, is_action, is_counted_function, is_counted_structure, is_enumeration, is_machine, is_object, is_port, limit_passed, limits_passed, with_its_own, told_unless, unknown_built_in, unknown_built_ins_in, unknown_structure, table_named, table_or_none}
+use Rattle.slicc_plan.specs.Declarations.{enumeration, structure}
 use Rattle.slicc_plan.proofs.Room.{left_none, mapped_at, none_at, right_none}
 use Rattle.declared_types.proofs.NameParts.{list_any_map}
-use Rattle.slicc_names.specs.Counting.{inside}
-use Rattle.slicc_names.specs.Names.{KeepGrammar, all_names, name_number, short_number, once_each, scope_names, texts_declared}
+use Rattle.slicc_names.specs.Prelude.{inside, KeepGrammar, all_names, name_number, short_number, once_each, scope_names, texts_declared}
 use Rattle.slicc_names.proofs.OnceEach.{among_declared, few_declared, few_texts, found, has_number}
 
 -- the names that count in no limit
@@ -145,8 +139,8 @@ module _ (machines : List (List ℕ)) where
 
   decl_counts : (d : Decl) → is_allowed (decl_outline d) ≡ true → All (Counts of_machine) (named_declarations d)
   decl_counts (decl.Structure s) a = one of_machine (structure s) (structure_counts s (is_external s) refl)
-  decl_counts (decl.Function (SkippedFunction s)) a =
-      one of_machine (function (SkippedFunction s)) (λ e q f. subst (λ t. is_few t ≡ true) ((bytes_eq-Decides s.name.text q).0 f) (skipped_is_few s.name.text (and_parts (is_skipped s.name) _ a).0))
+  decl_counts (decl.Function (Skipped s)) a =
+      one of_machine (function (Skipped s)) (λ e q f. subst (λ t. is_few t ≡ true) ((bytes_eq-Decides s.name.text q).0 f) (skipped_is_few s.name.text (and_parts (is_skipped s.name) _ a).0))
   decl_counts (decl.Transition t) a = All-nil (Counts of_machine)
   decl_counts _ a = one of_machine _ (λ e q f. refl)
 

@@ -5,9 +5,7 @@ use Rattle.std.proofs.lemmas.Grind.{flat_map-append}
 use Rattle.std.proofs.lemmas.List.{take_all}
 use Rattle.slicc_plan.proofs.Firsts.{first_after-append, first_after-flat_map}
 use Rattle.slicc_plan.specs.declared.broken.Broken.{Broken}
-use Rattle.slicc_plan.specs.Declarations.{Declaration}
-use Rattle.slicc_plan.specs.Order.{first_after}
-use Rattle.slicc_plan.specs.TwiceDeclared.{repeated}
+use Rattle.slicc_plan.specs.Prelude.{Declaration, first_after, repeated}
 
 pub told_in_both : (xs ys : List (List Declaration)) (f g h : Option Broken) → g ≡ first_after f (flat_map repeated xs) → h ≡ first_after g (flat_map repeated ys) → h ≡ first_after f (flat_map repeated (xs ++ ys))
 told_in_both xs ys f g h p q =

@@ -4,8 +4,7 @@ use Rattle.std.specs.Prelude.{◌≡◌, ℕ, Some, List, [], Result, Ok, Err}
 use Rattle.slicc_ast.specs.declared.tree.item.Tree.{Tree}
 use Rattle.slicc_plan.specs.declared.broken.Broken.{Broken}
 use Rattle.slicc_plan.specs.declared.refusal.Refusal.{Refusal}
-use Rattle.slicc_plan.specs.BrokenDeclarations.{IsAnswered, broken_declarations}
-use Rattle.slicc_plan.specs.Order.{IsFirstBroken}
+use Rattle.slicc_plan.specs.Prelude.{IsAnswered, broken_declarations, IsFirstBroken}
 use Rattle.slicc_names.specs.Names.{all_names}
 
 abbrev pub AreNames : List Tree → List (List (List ℕ)) → Type 0

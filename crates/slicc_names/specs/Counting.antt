@@ -11,19 +11,15 @@ use Rattle.slicc_ast.specs.declared.tree.statement.Stmt.{Stmt}
 use Rattle.slicc_plan.specs.declared.broken.Broken.{Broken}
 use Rattle.slicc_plan.specs.declared.broken.Rule.TheVariants.{LimitPassed}
 use Rattle.slicc_plan.specs.declared.built_in.BuiltInType.TheVariants.{Sequencer}
-use Rattle.slicc_plan.specs.Blocks.{body_locals, locals_in}
-use Rattle.slicc_plan.specs.Declarations.{Declaration, Scope, machine, machine_declarations, member, named_declarations, object, parameter, place_of}
-use Rattle.slicc_plan.specs.Scopes.{bodies_in}
-use Rattle.slicc_plan.specs.Types.{is_built_in, type_in}
-use Rattle.slicc_plan.specs.Limits.{beyond, beyond_in_body, members_of_found, most_objects, most_of_each, most_ports, most_sequencers, is_action, is_counted_function, is_counted_structure, is_enumeration, is_events, is_field, is_machine, is_object, is_port, is_states}
+use Rattle.slicc_plan.specs.Prelude.{body_locals, locals_in, Declaration, Scope, machine, machine_declarations, member, named_declarations, object, parameter, place_of, bodies_in, is_built_in, type_in, beyond, beyond_in_body, members_of_found, most_objects, most_of_each, most_ports, most_sequencers, is_action, is_counted_function, is_counted_structure, is_enumeration, is_events, is_field, is_machine, is_object, is_port, is_states}
 use Rattle.declared_types.specs.declared.lent.Declared.{Declared}
-use Rattle.declared_types.specs.Lent.{declaration_of}
+use Rattle.declared_types.specs.Prelude.{declaration_of}
 use Rattle.slicc_names.specs.declared.count.Found.{Found}
 use Rattle.slicc_names.specs.declared.count.Found.TheVariants.{At, Left}
 use Rattle.slicc_names.specs.declared.limits.Wanted.{Wanted}
 use Rattle.slicc_names.specs.declared.limits.Wanted.TheVariants.{States, Events}
-use Rattle.slicc_names.specs.declared.kinds.Kind.{Kind}
-use Rattle.slicc_names.specs.declared.kinds.Kind.TheVariants.{Machine, Enumeration, Structure, Action, Function, Port, Object}
+use Rattle.slicc_names.specs.declared.count.Kind.{Kind}
+use Rattle.slicc_names.specs.declared.count.Kind.TheVariants.{Machine, Enumeration, Structure, Action, Function, Port, Object}
 
 abbrev pub listed_place : Option Span → List Span
 listed_place None = []

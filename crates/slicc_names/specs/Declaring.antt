@@ -5,7 +5,7 @@ use Rattle.slicc_ast.specs.declared.tree.declaration.Member.{Member}
 use Rattle.slicc_ast.specs.declared.tree.declaration.State.{State}
 use Rattle.slicc_ast.specs.declared.tree.declaration.Symbol.{Symbol}
 use Rattle.slicc_ast.specs.declared.tree.machine.Parameter.{Parameter}
-use Rattle.slicc_plan.specs.Declarations.{Declaration, symbol, state, member, formal, parameter}
+use Rattle.slicc_plan.specs.Prelude.{Declaration, symbol, state, member, formal, parameter}
 
 abbrev pub one_symbol : Symbol → List Declaration
 one_symbol s = symbol s ∷ []

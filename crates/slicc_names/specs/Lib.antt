@@ -4,3 +4,4 @@ pub mod Declaring
 pub mod Lookups
 pub mod Names
 pub mod Repeated
+pub mod Prelude

@@ -3,11 +3,10 @@
 use Rattle.std.specs.Prelude.{ℕ, All, IsTrue, Option, None, Some, cond, nat_lt, List, [], fold, map, option_and_then}
 use Rattle.std.specs.List.{slice_get}
 use Rattle.slicc_ast.specs.declared.tree.item.Tree.{Tree}
-use Rattle.slicc_ast.specs.Outline.{is_allowed}
-use Rattle.slicc_ast.specs.Trees.{tree}
-use Rattle.ruby_base.specs.Numbering.{number_among, with_name}
+use Rattle.slicc_ast.specs.Prelude.{is_allowed, tree}
+use Rattle.ruby_base.specs.Prelude.{number_among, with_name}
 use Rattle.slicc_ast.specs.declared.tree.name.Name.{Name}
-use Rattle.slicc_plan.specs.Declarations.{Declaration, Scope, declared_in, wide_scopes}
+use Rattle.slicc_plan.specs.Prelude.{Declaration, Scope, declared_in, wide_scopes}
 use Rattle.slicc_plan.specs.TwiceDeclared.{names_of}
 
 -- each of these texts once, in the order in which they come first

@@ -5,9 +5,7 @@ use Rattle.slicc_ast.specs.declared.tree.item.Tree.{Tree}
 use Rattle.slicc_ast.specs.declared.tree.machine.Decl.{Decl}
 use Rattle.slicc_ast.specs.declared.tree.machine.Machine.{Machine}
 use Rattle.slicc_ast.specs.declared.tree.statement.ElseIf.{ElseIf}
-use Rattle.slicc_plan.specs.Blocks.{body_scopes}
-use Rattle.slicc_plan.specs.Declarations.{Declaration, item_declarations, machine, named_declarations}
-use Rattle.slicc_plan.specs.Scopes.{global_scopes, inner_scopes}
+use Rattle.slicc_plan.specs.Prelude.{body_scopes, Declaration, item_declarations, machine, named_declarations, global_scopes, inner_scopes}
 
 -- `else if ( expr ) block`
 abbrev pub else_if_scopes : ElseIf → List (List Declaration)

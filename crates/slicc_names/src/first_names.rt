@@ -1,13 +1,13 @@
 //! The names of a scope, as they are declared one after another.
-ghost use Rattle.std.specs.Prelude.{◌≡◌, ◌++◌, ◌∷◌, [], IfOk, OnOk, flat_map};
-ghost use Rattle.std.specs.Option.{option_map};
+ghost use Rattle.std.specs.Prelude.{◌≡◌, ◌++◌, ◌∷◌, [], IfOk, OnOk, flat_map, List};
+ghost use Rattle.std.specs.Option.{option_map, option_copied};
 ghost use Rattle.slicc_names.specs.Lookups.{FindSame};
-ghost use Rattle.slicc_plan.specs.Order.{first_after};
-ghost use Rattle.slicc_plan.specs.TwiceDeclared.{first_with, names_of, repeated, repeated_after, told_after, twice_declared};
+ghost use Rattle.slicc_plan.specs.Prelude.{first_after, first_with, repeated, repeated_after, told_after, twice_declared, local_of, Declaration, named_declarations};
+ghost use Rattle.slicc_plan.specs.TwiceDeclared.{names_of, listed};
+ghost use Rattle.slicc_names.specs.Declaring.{one_formal, one_member, one_parameter, one_state, one_symbol};
 
-use crate::declares::Declares;
 use indexmap::IndexMap;
-use slicc_ast::tree::{Name, Span};
+use slicc_ast::tree::{Decl, Formal, Function, Member, Name, Parameter, Span, State, Stmt, Symbol};
 use slicc_plan::{Broken, NoMemory, Rule, earlier_broken};
 use std::alloc::Global;
 use std::marker::Model;
@@ -135,4 +135,88 @@ pub fn in_both<T: Declares, U: Declares>(
     let mut scope = FirstNames::new(alloc);
     let first = scope.declare_all(first, parts)?;
     scope.declare_all(first, others)
+}
+
+/// A part of a tree that declares one name at most.
+pub trait Declares {
+    ghost declares: { Self → List Declaration };
+
+    fn declared_name(&self) -> Option<&Name>
+        ensures { names_of (declares self.now) ≡ listed (option_copied result) };
+}
+
+impl Declares for Symbol {
+    ghost declares = { one_symbol };
+
+    fn declared_name(&self) -> Option<&Name> {
+        Some(&self.name)
+    }
+}
+
+impl Declares for State {
+    ghost declares = { one_state };
+
+    fn declared_name(&self) -> Option<&Name> {
+        Some(&self.name)
+    }
+}
+
+impl Declares for Member {
+    ghost declares = { one_member };
+
+    fn declared_name(&self) -> Option<&Name> {
+        match self {
+            Member::Field { name, .. } | Member::Method { name, .. } => Some(name),
+            Member::Skipped(s) => Some(&s.name),
+        }
+    }
+}
+
+impl Declares for Formal {
+    ghost declares = { one_formal };
+
+    fn declared_name(&self) -> Option<&Name> {
+        match &self.name {
+            None => None,
+            Some(name) => Some(name),
+        }
+    }
+}
+
+impl Declares for Parameter {
+    ghost declares = { one_parameter };
+
+    fn declared_name(&self) -> Option<&Name> {
+        Some(&self.name)
+    }
+}
+
+impl Declares for Stmt {
+    ghost declares = { local_of };
+
+    fn declared_name(&self) -> Option<&Name> {
+        match self {
+            Stmt::Declare { name, .. } => Some(name),
+            _ => None,
+        }
+    }
+}
+
+impl Declares for Decl {
+    ghost declares = { named_declarations };
+
+    fn declared_name(&self) -> Option<&Name> {
+        match self {
+            Decl::States(s) => Some(&s.name),
+            Decl::Enumeration(e) => Some(&e.name),
+            Decl::Structure(s) => Some(&s.name),
+            Decl::OutPort(p) => Some(&p.name),
+            Decl::InPort(p) => Some(&p.name),
+            Decl::Action(a) => Some(&a.name),
+            Decl::Transition(_) => None,
+            Decl::Function(Function::Plain { name, .. }) => Some(name),
+            Decl::Function(Function::Skipped(s)) => Some(&s.name),
+            Decl::Object(o) => Some(&o.name),
+        }
+    }
 }

@@ -1,17 +1,12 @@
 //! The rule that there is no more of anything than a protocol may have.
-ghost use Rattle.std.specs.Prelude.{◌≡◌, filter, flat_map, find};
-ghost use Rattle.declared_types.specs.Lent.{declaration_of, declarations_of};
-ghost use Rattle.slicc_names.specs.Counting.{is_of_kind, is_wanted, listed_place, member_place};
-ghost use Rattle.slicc_plan.specs.Declarations.{function};
-ghost use Rattle.slicc_plan.specs.Limits.{beyond, beyond_in_body, beyond_in_declaration, fields_in, members_in, members_of_found, most_fields, most_of_each};
-ghost use Rattle.slicc_plan.specs.Order.{first_after};
-ghost use Rattle.slicc_plan.specs.Scopes.{bodies_in};
+ghost use Rattle.std.specs.Prelude.{◌≡◌, filter, flat_map, find, map};
+ghost use Rattle.declared_types.specs.Prelude.{declaration_of, declarations_of};
+ghost use Rattle.slicc_names.specs.Counting.{is_of_kind, is_wanted, listed_place, member_place, else_if_places, found_after, local_places};
+ghost use Rattle.slicc_plan.specs.Prelude.{function, beyond, beyond_in_body, beyond_in_declaration, fields_in, members_in, members_of_found, most_fields, most_of_each, first_after, bodies_in, body_locals, if_locals, place_of};
 
-use crate::count::{Found, count_each, count_fields, limit_at};
-use crate::kinds::Kind;
-use crate::locals::count_locals;
+use crate::count::{Found, Kind, count, count_each, count_fields, limit_at};
 use declared_types::{Declared, is_external};
-use slicc_ast::tree::{Block, Function, Span};
+use slicc_ast::tree::{Block, ElseIf, Function, If, Span, Stmt};
 use slicc_plan::Broken;
 
 const OF_EACH: u32 = 256;
@@ -168,4 +163,57 @@ pub fn wanted_limit(
         }
     }
     first
+}
+
+#[cycle(locals)]
+pub fn count_locals(found: Found, b: &Block) -> Found
+    ensures { result ≡ found_after found (map place_of (body_locals b.now)) }
+{
+    in_statements(found, &b.statements)
+}
+
+#[cycle(locals)]
+fn in_statements(found: Found, statements: &[Stmt]) -> Found
+    ensures { result ≡ found_after found (flat_map local_places statements.now) }
+{
+    let mut found = found;
+    for s in statements {
+        found = in_statement(found, s);
+    }
+    found
+}
+
+#[cycle(locals)]
+fn in_statement(found: Found, s: &Stmt) -> Found
+    ensures { result ≡ found_after found (local_places s.now) }
+{
+    match s {
+        Stmt::Declare { span, .. } => count(found, Some(*span)),
+        Stmt::If(i) => in_if(found, i),
+        Stmt::Peek { body, .. } | Stmt::Enqueue { body, .. } => count_locals(found, body),
+        _ => found,
+    }
+}
+
+#[cycle(locals)]
+fn in_if(found: Found, i: &If) -> Found
+    ensures { result ≡ found_after found (map place_of (if_locals i.now)) }
+{
+    let then = count_locals(found, &i.then);
+    let others = in_others(then, &i.others);
+    match &i.otherwise {
+        None => others,
+        Some(block) => count_locals(others, block),
+    }
+}
+
+#[cycle(locals)]
+fn in_others(found: Found, others: &[ElseIf]) -> Found
+    ensures { result ≡ found_after found (flat_map else_if_places others.now) }
+{
+    let mut found = found;
+    for other in others {
+        found = count_locals(found, &other.then);
+    }
+    found
 }

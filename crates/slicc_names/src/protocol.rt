@@ -1,17 +1,11 @@
 //! The limits of a machine and of a protocol.
 ghost use Rattle.std.specs.Prelude.{◌≡◌, filter, flat_map};
-ghost use Rattle.declared_types.specs.Lent.{declaration_of, declarations_of};
-ghost use Rattle.declared_types.specs.Scopes.{scope_at};
-ghost use Rattle.slicc_names.specs.Counting.{is_sequencer_in, kind_limits, limits_of, listed_place, place_if};
+ghost use Rattle.declared_types.specs.Prelude.{declaration_of, declarations_of, scope_at};
+ghost use Rattle.slicc_names.specs.Prelude.{is_sequencer_in, kind_limits, limits_of, listed_place, place_if};
 ghost use Rattle.slicc_plan.specs.declared.built_in.BuiltInType.TheVariants.{Sequencer};
-ghost use Rattle.slicc_plan.specs.Declarations.{declared_in, wide_scopes};
-ghost use Rattle.slicc_plan.specs.Limits.{beyond, beyond_in_scope, limits_passed, machine_limits, most_sequencers};
-ghost use Rattle.slicc_plan.specs.Order.{first_after};
-ghost use Rattle.slicc_plan.specs.Types.{is_built_in, type_in};
+ghost use Rattle.slicc_plan.specs.Prelude.{declared_in, wide_scopes, beyond, beyond_in_scope, limits_passed, machine_limits, most_sequencers, first_after, is_built_in, type_in};
 
-use crate::all::count_all;
-use crate::count::{Found, count, limit_at};
-use crate::kinds::Kind;
+use crate::count::{Found, Kind, count, count_all, limit_at};
 use crate::limits::{Wanted, in_bodies, in_declarations, kind_limit, wanted_limit};
 use declaration_rules::is_built_in;
 use declared_types::{Declared, Scope, Scopes};

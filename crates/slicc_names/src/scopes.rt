@@ -1,15 +1,14 @@
 //! Names that are declared twice in one of the scopes within a protocol.
-ghost use Rattle.std.specs.Prelude.{◌≡◌, IfOk, List, flat_map};
-ghost use Rattle.slicc_plan.specs.Declarations.{Declaration};
-ghost use Rattle.slicc_plan.specs.Order.{first_after};
-ghost use Rattle.slicc_plan.specs.Scopes.{function_scopes, member_scopes, structure_scopes};
-ghost use Rattle.slicc_plan.specs.TwiceDeclared.{repeated};
-ghost use Rattle.slicc_names.specs.Repeated.{decl_scopes, item_scopes, machine_scopes, tree_scopes};
+ghost use Rattle.std.specs.Prelude.{◌≡◌, IfOk, List, flat_map, []};
+ghost use Rattle.slicc_plan.specs.Prelude.{Declaration, first_after, function_scopes, member_scopes, structure_scopes, repeated, blocks_in, body_scopes, if_blocks};
+ghost use Rattle.slicc_names.specs.Repeated.{decl_scopes, item_scopes, machine_scopes, tree_scopes, else_if_scopes};
+ghost use Rattle.slicc_names.specs.Declaring.{one_formal};
 
-use crate::blocks::{in_block, in_body};
 use crate::first_names::{in_both, in_parts};
 use declared_types::is_external;
-use slicc_ast::tree::{Decl, Function, Item, Machine, Member, Structure, Tree};
+use slicc_ast::tree::{
+    Block, Decl, ElseIf, Formal, Function, If, Item, Machine, Member, Stmt, Structure, Tree,
+};
 use slicc_plan::{Broken, NoMemory};
 use std::alloc::Global;
 
@@ -120,4 +119,79 @@ impl Scoped for Tree {
     fn in_scopes(&self, alloc: Global, first: Option<Broken>) -> Result<Option<Broken>, NoMemory> {
         in_each(alloc, first, &self.items)
     }
+}
+
+/// A body with its formals.
+pub fn in_body(
+    alloc: Global,
+    first: Option<Broken>,
+    formals: &[Formal],
+    b: &Block,
+) -> Result<Option<Broken>, NoMemory>
+    ensures { IfOk result (λ r. r ≡ first_after first (flat_map repeated (body_scopes (flat_map one_formal formals.now) b.now))) }
+{
+    let first = in_both(alloc, first, formals, &b.statements)?;
+    in_statements(alloc, first, &b.statements)
+}
+
+/// A block that has no formals.
+#[cycle(blocks)]
+pub fn in_block(alloc: Global, first: Option<Broken>, b: &Block) -> Result<Option<Broken>, NoMemory>
+    ensures { IfOk result (λ r. r ≡ first_after first (flat_map repeated (body_scopes [] b.now))) }
+{
+    let first = in_parts(alloc, first, &b.statements)?;
+    in_statements(alloc, first, &b.statements)
+}
+
+#[cycle(blocks)]
+fn in_statements(
+    alloc: Global,
+    first: Option<Broken>,
+    statements: &[Stmt],
+) -> Result<Option<Broken>, NoMemory>
+    ensures { IfOk result (λ r. r ≡ first_after first (flat_map repeated (flat_map blocks_in statements.now))) }
+{
+    let mut first = first;
+    for s in statements {
+        first = in_statement(alloc, first, s)?;
+    }
+    Ok(first)
+}
+
+#[cycle(blocks)]
+fn in_statement(alloc: Global, first: Option<Broken>, s: &Stmt) -> Result<Option<Broken>, NoMemory>
+    ensures { IfOk result (λ r. r ≡ first_after first (flat_map repeated (blocks_in s.now))) }
+{
+    match s {
+        Stmt::If(i) => in_if(alloc, first, i),
+        Stmt::Peek { body, .. } | Stmt::Enqueue { body, .. } => in_block(alloc, first, body),
+        _ => Ok(first),
+    }
+}
+
+#[cycle(blocks)]
+fn in_if(alloc: Global, first: Option<Broken>, i: &If) -> Result<Option<Broken>, NoMemory>
+    ensures { IfOk result (λ r. r ≡ first_after first (flat_map repeated (if_blocks i.now))) }
+{
+    let first = in_block(alloc, first, &i.then)?;
+    let first = in_others(alloc, first, &i.others)?;
+    match &i.otherwise {
+        Some(block) => in_block(alloc, first, block),
+        None => Ok(first),
+    }
+}
+
+#[cycle(blocks)]
+fn in_others(
+    alloc: Global,
+    first: Option<Broken>,
+    others: &[ElseIf],
+) -> Result<Option<Broken>, NoMemory>
+    ensures { IfOk result (λ r. r ≡ first_after first (flat_map repeated (flat_map else_if_scopes others.now))) }
+{
+    let mut first = first;
+    for other in others {
+        first = in_block(alloc, first, &other.then)?;
+    }
+    Ok(first)
 }

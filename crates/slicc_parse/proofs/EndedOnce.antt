@@ -5,9 +5,8 @@ use Rattle.slicc_ast.specs.declared.tree.token.TokenKind.{TokenKind}
 use Rattle.slicc_ast.specs.declared.tree.token.TokenKind.TheVariants.{End}
 use Rattle.slicc_lex.specs.declared.fault.LexFault.{LexFault}
 use Rattle.slicc_lex.specs.declared.token.Token.{Token}
-use Rattle.slicc_lex.specs.Pieces.{IsWritten}
-use Rattle.slicc_lex.specs.Tokens.{Reads, ends, skips, takes, stops, with_token}
-use Rattle.slicc_parse.specs.Parsed.{AreEndedOnce}
+use Rattle.slicc_lex.specs.Prelude.{IsWritten, Reads, ends, skips, takes, stops, with_token}
+use Rattle.slicc_parse.specs.Prelude.{AreEndedOnce}
 
 abbrev IsOther : Token → Type 0
 IsOther t = t.kind ≢ End

@@ -3,20 +3,11 @@ use Rattle.std.proofs.Common.{◌≡◌, ◌++◌, ℕ, List, [], ◌∷◌, map
 use Rattle.std.specs.Result.{IfErr}
 use Rattle.std.proofs.lemmas.List.{map-append}
 use Rattle.slicc_ast.specs.declared.tree.item.Tree.{Tree}
-use Rattle.slicc_ast.specs.Trees.{tree}
-use Rattle.slicc_ast.specs.Faults.{IsFirstFault, IsWithin, Stop}
-use Rattle.slicc_ast.specs.Faults.Stop.{Bad, Deep, Passed}
-use Rattle.slicc_ast.specs.Grammar.Row.{done, form}
-use Rattle.slicc_ast.specs.Grammar.Rows.{end}
-use Rattle.slicc_ast.specs.Form.Form.{file}
-use Rattle.slicc_ast.specs.Spelled.{spelling}
-use Rattle.slicc_ast.specs.TokenKinds.{end_of_text, kind_of}
-use Rattle.slicc_ast.specs.Written.{written}
+use Rattle.slicc_ast.specs.Prelude.{tree, IsFirstFault, IsWithin, Stop, Bad, Deep, Passed, done, form, end, file, spelling, end_of_text, kind_of, written}
 use Rattle.slicc_ast.proofs.Readers.{tree_passes}
 use Rattle.slicc_lex.specs.declared.token.Token.{Token}
-use Rattle.slicc_lex.specs.Spells.{Spells, token_kinds}
-use Rattle.slicc_lex.specs.Syntax.{nesting_limit, symbols}
-use Rattle.slicc_parse.specs.Parsed.{AreWithinLimit, IsParse}
+use Rattle.slicc_lex.specs.Prelude.{Spells, token_kinds, nesting_limit, symbols}
+use Rattle.slicc_parse.specs.Prelude.{AreWithinLimit, IsParse}
 use Rattle.slicc_reading.specs.declared.fault.SyntaxFault.{SyntaxFault}
 use Rattle.slicc_reading.specs.declared.fault.SyntaxFault.TheVariants.{Syntax, Deep as TooDeep, NoMemory}
 

@@ -5,30 +5,17 @@ use Rattle.slicc_ast.specs.declared.tree.item.Tree.{Tree}
 use Rattle.slicc_ast.specs.declared.tree.span.Span.{Span}
 use Rattle.slicc_ast.specs.declared.tree.token.TokenKind.{TokenKind}
 use Rattle.slicc_ast.specs.declared.tree.token.TokenKind.TheVariants.{End}
-use Rattle.slicc_ast.specs.Outline.{covering, none, token}
-use Rattle.slicc_ast.specs.Trees.{protocol_parts}
-use Rattle.slicc_ast.specs.Faults.{IsFirstFault}
-use Rattle.slicc_ast.specs.Faults.Stop.{Passed}
-use Rattle.slicc_ast.specs.Kinds.{has, is_ahead}
-use Rattle.slicc_ast.specs.Ahead.{first_of_form}
-use Rattle.slicc_ast.specs.Form.Form.{file}
-use Rattle.slicc_ast.specs.Parts.{◌▸◌, end_token, of, optional}
-use Rattle.slicc_ast.specs.TokenKinds.{end_of_text, kind_of}
-use Rattle.slicc_ast.specs.Written.{written}
+use Rattle.slicc_ast.specs.Outline.{token}
+use Rattle.slicc_ast.specs.Prelude.{covering, none, protocol_parts, IsFirstFault, Passed, has, is_ahead, first_of_form, file, ◌▸◌, end_token, of, optional, end_of_text, kind_of, written}
 use Rattle.slicc_ast.proofs.Readers.{passed}
 use Rattle.slicc_lex.specs.declared.token.Token.{Token}
-use Rattle.slicc_lex.specs.Spells.{token_spans}
-use Rattle.slicc_lex.specs.Syntax.{nesting_limit, symbols}
-use Rattle.slicc_parse.specs.Ends.{IsEndAt, IsFileRead}
-use Rattle.slicc_parse.specs.Parsed.{AreEndedOnce, IsFileOf}
-use Rattle.slicc_parse.specs.Rows.{items_parts, items_row, protocol_row}
+use Rattle.slicc_lex.specs.Prelude.{token_spans, nesting_limit, symbols}
+use Rattle.slicc_parse.specs.Prelude.{IsEndAt, IsFileRead, AreEndedOnce, IsFileOf, items_parts, items_row, protocol_row}
 use Rattle.slicc_parse.proofs.Lists.{items_parts_none}
 use Rattle.slicc_parse.proofs.WholeFiles.{file_never_short}
 use Rattle.slicc_reading.specs.declared.fault.Fault.{Fault}
 use Rattle.slicc_reading.specs.declared.fault.SyntaxFault.{SyntaxFault}
-use Rattle.slicc_reading.specs.Answers.{IsFaultFrom, placed}
-use Rattle.slicc_reading.specs.Reading.{AreParts, AreRead, Refuses}
-use Rattle.slicc_reading.specs.Reading.AreParts.{allowed, nothing}
+use Rattle.slicc_reading.specs.Prelude.{IsFaultFrom, placed, AreParts, AreRead, Refuses, allowed, nothing}
 use Rattle.slicc_reading.proofs.Border.{fault_unless_short}
 use Rattle.slicc_reading.proofs.Parts.{◌then◌, by_alternative, token_read}
 use Rattle.slicc_reading.proofs.Spelled.{parts_of}

@@ -3,10 +3,9 @@ use Rattle.std.proofs.Common.{◌≡◌, Option, Some, None, List, [], ◌∷◌
 use Rattle.slicc_ast.specs.declared.tree.item.Item.{Item}
 use Rattle.slicc_ast.specs.declared.tree.machine.Decl.{Decl}
 use Rattle.slicc_ast.specs.declared.tree.statement.Block.{Block}
-use Rattle.slicc_ast.specs.Machines.{decl, decl_list, function_body}
-use Rattle.slicc_ast.specs.Outline.{Parts, none, part}
-use Rattle.slicc_ast.specs.Trees.{item, item_list}
-use Rattle.slicc_parse.specs.Rows.{body_parts, items_parts}
+use Rattle.slicc_ast.specs.Prelude.{decl, decl_list, function_body, Parts, none, part, item_list}
+use Rattle.slicc_ast.specs.Trees.{item}
+use Rattle.slicc_parse.specs.Prelude.{body_parts, items_parts}
 use Rattle.slicc_reading.proofs.Repeats.{each}
 
 -- a machine's declarations

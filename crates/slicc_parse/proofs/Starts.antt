@@ -5,13 +5,12 @@ use Rattle.slicc_ast.specs.declared.tree.item.Item.{Item}
 use Rattle.slicc_ast.specs.declared.tree.item.Item.TheVariants.{Include, Enumeration as EnumerationItem, Structure as StructureItem, Machine}
 use Rattle.slicc_ast.specs.declared.tree.machine.Decl.{Decl}
 use Rattle.slicc_ast.specs.declared.tree.machine.Decl.TheVariants.{States, Enumeration, Structure, OutPort, InPort, Action, Transition, Function, Object}
-use Rattle.slicc_ast.specs.Machines.{decl}
-use Rattle.slicc_ast.specs.Outline.{Outline, kinds_of}
+use Rattle.slicc_ast.specs.Prelude.{decl, Outline, kinds_of}
 use Rattle.slicc_ast.specs.Trees.{item}
 use Rattle.slicc_ast.specs.Parts.{Part}
 use Rattle.slicc_lex.specs.declared.token.Token.{Token}
-use Rattle.slicc_lex.specs.Spells.{token_kinds}
-use Rattle.slicc_reading.specs.Reading.{IsRead}
+use Rattle.slicc_lex.specs.Prelude.{token_kinds}
+use Rattle.slicc_reading.specs.Prelude.{IsRead}
 use Rattle.slicc_reading.proofs.Spelled.{IsNodeOf, node_of}
 
 some : (n : ℕ) → 0 < suc n

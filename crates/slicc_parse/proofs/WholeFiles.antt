@@ -4,27 +4,14 @@ use Rattle.std.specs.List.{slice_get}
 use Rattle.std.proofs.lemmas.Bool.{false≢true}
 use Rattle.slicc_ast.specs.declared.tree.token.TokenKind.TheVariants.{End}
 use Rattle.slicc_ast.specs.declared.tree.token.Word.TheVariants.{Protocol}
-use Rattle.slicc_ast.specs.Faults.{IsFirstFault}
-use Rattle.slicc_ast.specs.Faults.Stop.{Short}
-use Rattle.slicc_ast.specs.Faults.IsStop.{too_short}
-use Rattle.slicc_ast.specs.Grammar.{Row}
-use Rattle.slicc_ast.specs.Grammar.Row.{done, form}
-use Rattle.slicc_ast.specs.Grammar.Rows.{end, next}
-use Rattle.slicc_ast.specs.Kinds.{has}
-use Rattle.slicc_ast.specs.Matches.{Begins, Derives, Matches}
-use Rattle.slicc_ast.specs.Matches.Extent.{Front}
-use Rattle.slicc_ast.specs.Matches.Matches.{stopped, ended, one, alternative}
-use Rattle.slicc_ast.specs.Same.{joined}
+use Rattle.slicc_ast.specs.Prelude.{IsFirstFault, Short, too_short, Row, done, form, end, next, has, Begins, Derives, Matches, Front, stopped, ended, one, alternative, joined, Form, file, ◌▸◌, end_token, of, optional, repeated, semicolon, string, end_of_text, written}
 use Rattle.slicc_ast.proofs.InARow.{begins_in_a_row, derives_in_a_row}
 use Rattle.slicc_ast.proofs.Joining.{merge, part}
 use Rattle.slicc_ast.proofs.KindSets.{in_either}
-use Rattle.slicc_ast.specs.Form.{Form}
-use Rattle.slicc_ast.specs.Form.Form.{file, item}
-use Rattle.slicc_ast.specs.Parts.{◌▸◌, end_token, of, optional, repeated, semicolon, string, word}
-use Rattle.slicc_ast.specs.TokenKinds.{end_of_text}
-use Rattle.slicc_ast.specs.Written.{written}
+use Rattle.slicc_ast.specs.Form.Form.{item}
+use Rattle.slicc_ast.specs.Parts.{word}
 use Rattle.slicc_lex.specs.declared.token.Token.{Token}
-use Rattle.slicc_lex.specs.Syntax.{symbols}
+use Rattle.slicc_lex.specs.Prelude.{symbols}
 use Rattle.slicc_reading.proofs.Endless.{endless, has_last}
 
 -- what is before the end token, and that token

@@ -2,16 +2,10 @@
 use Rattle.std.specs.Prelude.{◌≡◌, ℕ, List, ◌∷◌}
 use Rattle.slicc_ast.specs.declared.tree.item.Tree.{Tree}
 use Rattle.slicc_ast.specs.declared.tree.token.TokenKind.TheVariants.{End}
-use Rattle.slicc_ast.specs.Outline.{covering}
-use Rattle.slicc_ast.specs.Trees.{tree_parts}
-use Rattle.slicc_ast.specs.Reader.{Passes}
-use Rattle.slicc_ast.specs.Form.Form.{file}
-use Rattle.slicc_ast.specs.Parts.{of}
-use Rattle.slicc_ast.specs.Table.{table}
+use Rattle.slicc_ast.specs.Prelude.{covering, tree_parts, Passes, file, of, table}
 use Rattle.slicc_lex.specs.declared.token.Token.{Token}
-use Rattle.slicc_lex.specs.Spells.{token_spans}
-use Rattle.slicc_lex.specs.Syntax.{symbols}
-use Rattle.slicc_reading.specs.Reading.{AreParts}
+use Rattle.slicc_lex.specs.Prelude.{token_spans, symbols}
+use Rattle.slicc_reading.specs.Prelude.{AreParts}
 
 -- the first token is the end token, which begins at a byte
 pub record IsEndAt (tokens : List Token) (place : ℕ) (left : List Token) : Type 0 where

@@ -4,17 +4,11 @@
 use Rattle.std.specs.Prelude.{◌≡◌, ◌≢◌, ◌++◌, All, List, [], ◌∷◌, Result, MatchResult}
 use Rattle.slicc_ast.specs.declared.tree.item.Tree.{Tree}
 use Rattle.slicc_ast.specs.declared.tree.token.TokenKind.TheVariants.{End}
-use Rattle.slicc_ast.specs.Faults.{IsFirstFault, IsWithin}
-use Rattle.slicc_ast.specs.Faults.Stop.{Passed}
-use Rattle.slicc_ast.specs.Grammar.Row.{done, form}
-use Rattle.slicc_ast.specs.Grammar.Rows.{end}
-use Rattle.slicc_ast.specs.Form.Form.{file}
-use Rattle.slicc_ast.specs.Written.{written}
+use Rattle.slicc_ast.specs.Prelude.{IsFirstFault, IsWithin, Passed, done, form, end, file, written}
 use Rattle.slicc_lex.specs.declared.token.Token.{Token}
-use Rattle.slicc_lex.specs.Spells.{Spells}
-use Rattle.slicc_lex.specs.Syntax.{nesting_limit, symbols}
+use Rattle.slicc_lex.specs.Prelude.{Spells, nesting_limit, symbols}
 use Rattle.slicc_reading.specs.declared.fault.SyntaxFault.{SyntaxFault}
-use Rattle.slicc_reading.specs.Answers.{IsFaultFrom}
+use Rattle.slicc_reading.specs.Prelude.{IsFaultFrom}
 
 -- the last of the tokens, and no other, is the end token
 pub record AreEndedOnce (tokens : List Token) : Type 0 where

@@ -9,14 +9,12 @@ use Rattle.slicc_ast.specs.declared.tree.statement.Block.{Block}
 use Rattle.slicc_ast.specs.declared.tree.token.Sign.TheVariants.{CloseBrace, Colon, OpenBrace, Semicolon}
 use Rattle.slicc_ast.specs.declared.tree.token.Word.TheVariants.{Action, Enumeration, InPort, OutPort, Protocol, StateDeclaration, Structure, Transition}
 use Rattle.slicc_ast.specs.Declarations.{formals as formals_of, pairs as pairs_of}
-use Rattle.slicc_ast.specs.Machines.{decl_list, parameter_list}
+use Rattle.slicc_ast.specs.Prelude.{decl_list, parameter_list, Parts, part, protocol_parts, body, declaration, declaration_end, functional_end, machine_name, named_end, ◌▸◌, braces, colon, comma, of, optional, parentheses, plain_name, repeated, semicolon, skipped_name, string, type, word_kind}
 use Rattle.slicc_ast.specs.Names.{sign as sign_of}
-use Rattle.slicc_ast.specs.Outline.{Parts, part}
 use Rattle.slicc_ast.specs.Statements.{block}
-use Rattle.slicc_ast.specs.Trees.{item as item_of, protocol_parts}
-use Rattle.slicc_ast.specs.Form.Form.{body, declaration, declaration_end, formals, functional_end, item, machine_name, named_end, parameter}
-use Rattle.slicc_ast.specs.Parts.{Part, ◌▸◌, braces, colon, comma, name, of, optional, pairs, parentheses, plain_name, repeated, semicolon, sign, skipped_name, star, string, type, word}
-use Rattle.slicc_ast.specs.TokenKinds.{word_kind}
+use Rattle.slicc_ast.specs.Trees.{item as item_of}
+use Rattle.slicc_ast.specs.Form.Form.{formals, item, parameter}
+use Rattle.slicc_ast.specs.Parts.{Part, name, pairs, sign, star, word}
 
 -- a function's body, or `;`
 abbrev pub body_parts : Option Block → Parts → Parts

@@ -1,21 +1,95 @@
-//! The declarations of a machine, each chosen by its first token.
+//! The declarations of a machine, each chosen by its first token. Ports that messages are received by and actions are a head and a
+//! block.
 ghost use Rattle.std.specs.Prelude.{◌≡◌, MatchResult};
-ghost use Rattle.slicc_ast.specs.Kinds.{is_ahead};
-ghost use Rattle.slicc_ast.specs.Machines.{decl};
-ghost use Rattle.slicc_ast.specs.Ahead.{first_of_form};
-ghost use Rattle.slicc_ast.specs.Form.Form.{action as action_form, declaration as declaration_form, enumeration as enumeration_form, in_port as in_port_form, out_port as out_port_form, states as states_form, structure as structure_form, transition as transition_form};
-ghost use Rattle.slicc_ast.specs.Parts.{of};
-ghost use Rattle.slicc_lex.specs.Syntax.{symbols};
-ghost use Rattle.slicc_parse.specs.Rows.{braces_parts, braces_row, closed_parts, closed_row, words_of_kinds, words_of_rules};
-ghost use Rattle.slicc_reading.specs.Reading.{AreRead, IsRead, Refuses};
+ghost use Rattle.slicc_ast.specs.Prelude.{is_ahead, decl, first_of_form, declaration, of};
+ghost use Rattle.slicc_ast.specs.Machines.{action, in_port};
+ghost use Rattle.slicc_ast.specs.Form.Form.{action as action_form, in_port as in_port_form};
+ghost use Rattle.slicc_lex.specs.Prelude.{symbols};
+ghost use Rattle.slicc_reading.specs.Prelude.{AreRead, IsRead, Refuses};
+ghost use Rattle.slicc_parse.specs.Prelude.{braces_parts, braces_row, closed_parts, closed_row, words_of_kinds, words_of_rules};
 
-use crate::handlers::{action, in_port};
 use crate::typed::typed;
-use slicc_ast::tree::{Decl, Sign, Word};
-use slicc_decl::{enumeration, out_port, states, structure, transition};
+use slicc_ast::tree::{Action, Decl, InPort, Sign, Word};
+use slicc_decl::{PortHead, enumeration, head, out_port, port_head, states, structure, transition};
+use slicc_expr::statement_block;
 use slicc_lex::Token;
-use slicc_reading::{Fault, is_name, is_word, open, refuse, sign};
+use slicc_reading::{Fault, Read, is_name, is_word, open, refuse, sign, span, word};
 use std::alloc::Global;
+
+/// A port that messages are received by.
+fn in_port(alloc: Global, room: u32, tokens: &[Token]) -> Read<InPort>
+    ensures { MatchResult result
+        (λ read. IsRead room (of in_port_form) (in_port read.0) tokens.now tokens.now read.1.now)
+        (Refuses room (of in_port_form) tokens.now) }
+{
+    if !is_word(Word::InPort, tokens) {
+        return Err(refuse(room, tokens));
+    }
+    match word(room, Word::InPort, tokens) {
+        Ok(inside) => match port_head(alloc, room, inside) {
+            Ok((head, behind)) => match statement_block(alloc, room, behind) {
+                Ok((body, left)) => {
+                    let PortHead {
+                        name,
+                        message,
+                        buffer,
+                        pairs,
+                    } = head;
+                    let span = span(tokens, left);
+                    Ok((
+                        InPort {
+                            name,
+                            message,
+                            buffer,
+                            pairs,
+                            body,
+                            span,
+                        },
+                        left,
+                    ))
+                }
+                Err(fault) => {
+                    drop(head);
+                    Err(fault)
+                }
+            },
+            Err(fault) => Err(fault),
+        },
+        Err(fault) => Err(fault),
+    }
+}
+
+/// An action.
+fn action(alloc: Global, room: u32, tokens: &[Token]) -> Read<Action>
+    ensures { MatchResult result
+        (λ read. IsRead room (of action_form) (action read.0) tokens.now tokens.now read.1.now)
+        (Refuses room (of action_form) tokens.now) }
+{
+    if !is_word(Word::Action, tokens) {
+        return Err(refuse(room, tokens));
+    }
+    match word(room, Word::Action, tokens) {
+        Ok(inside) => match head(alloc, room, inside) {
+            Ok((name, pairs, behind)) => match statement_block(alloc, room, behind) {
+                Ok((body, left)) => {
+                    let span = span(tokens, left);
+                    Ok((
+                        Action {
+                            name,
+                            pairs,
+                            body,
+                            span,
+                        },
+                        left,
+                    ))
+                }
+                Err(fault) => Err(fault),
+            },
+            Err(fault) => Err(fault),
+        },
+        Err(fault) => Err(fault),
+    }
+}
 
 /// Whether the first token begins a declaration of types.
 fn begins_kinds(tokens: &[Token]) -> bool
@@ -38,147 +112,56 @@ fn begins_rules(tokens: &[Token]) -> bool
 
 /// Whether the first token begins a declaration.
 fn begins_declaration(tokens: &[Token]) -> bool
-    ensures { result ≡ is_ahead (first_of_form declaration_form) (symbols tokens.now) }
+    ensures { result ≡ is_ahead (first_of_form declaration) (symbols tokens.now) }
 {
     is_name(tokens) || begins_kinds(tokens) || begins_rules(tokens)
 }
 
-fn states_declaration(alloc: Global, room: u32, tokens: &[Token]) -> Result<(Decl, &[Token]), Fault>
-    ensures { MatchResult result
-        (λ read. IsRead room (of states_form) (decl read.0) tokens.now tokens.now read.1.now)
-        (Refuses room (of states_form) tokens.now) }
-{
-    match states(alloc, room, tokens) {
-        Ok((found, left)) => Ok((Decl::States(found), left)),
-        Err(fault) => Err(fault),
-    }
-}
-
-fn enumeration_declaration(
-    alloc: Global,
-    room: u32,
-    tokens: &[Token],
-) -> Result<(Decl, &[Token]), Fault>
-    ensures { MatchResult result
-        (λ read. IsRead room (of enumeration_form) (decl read.0) tokens.now tokens.now read.1.now)
-        (Refuses room (of enumeration_form) tokens.now) }
-{
-    match enumeration(alloc, room, tokens) {
-        Ok((found, left)) => Ok((Decl::Enumeration(found), left)),
-        Err(fault) => Err(fault),
-    }
-}
-
-fn structure_declaration(
-    alloc: Global,
-    room: u32,
-    tokens: &[Token],
-) -> Result<(Decl, &[Token]), Fault>
-    ensures { MatchResult result
-        (λ read. IsRead room (of structure_form) (decl read.0) tokens.now tokens.now read.1.now)
-        (Refuses room (of structure_form) tokens.now) }
-{
-    match structure(alloc, room, tokens) {
-        Ok((found, left)) => Ok((Decl::Structure(found), left)),
-        Err(fault) => Err(fault),
-    }
-}
-
-fn out_port_declaration(
-    alloc: Global,
-    room: u32,
-    tokens: &[Token],
-) -> Result<(Decl, &[Token]), Fault>
-    ensures { MatchResult result
-        (λ read. IsRead room (of out_port_form) (decl read.0) tokens.now tokens.now read.1.now)
-        (Refuses room (of out_port_form) tokens.now) }
-{
-    match out_port(alloc, room, tokens) {
-        Ok((found, left)) => Ok((Decl::OutPort(found), left)),
-        Err(fault) => Err(fault),
-    }
-}
-
-fn in_port_declaration(
-    alloc: Global,
-    room: u32,
-    tokens: &[Token],
-) -> Result<(Decl, &[Token]), Fault>
-    ensures { MatchResult result
-        (λ read. IsRead room (of in_port_form) (decl read.0) tokens.now tokens.now read.1.now)
-        (Refuses room (of in_port_form) tokens.now) }
-{
-    match in_port(alloc, room, tokens) {
-        Ok((found, left)) => Ok((Decl::InPort(found), left)),
-        Err(fault) => Err(fault),
-    }
-}
-
-fn action_declaration(alloc: Global, room: u32, tokens: &[Token]) -> Result<(Decl, &[Token]), Fault>
-    ensures { MatchResult result
-        (λ read. IsRead room (of action_form) (decl read.0) tokens.now tokens.now read.1.now)
-        (Refuses room (of action_form) tokens.now) }
-{
-    match action(alloc, room, tokens) {
-        Ok((found, left)) => Ok((Decl::Action(found), left)),
-        Err(fault) => Err(fault),
-    }
-}
-
-fn transition_declaration(
-    alloc: Global,
-    room: u32,
-    tokens: &[Token],
-) -> Result<(Decl, &[Token]), Fault>
-    ensures { MatchResult result
-        (λ read. IsRead room (of transition_form) (decl read.0) tokens.now tokens.now read.1.now)
-        (Refuses room (of transition_form) tokens.now) }
-{
-    match transition(alloc, room, tokens) {
-        Ok((found, left)) => Ok((Decl::Transition(found), left)),
-        Err(fault) => Err(fault),
-    }
+/// A declaration of a kind, with the tokens that are left behind it.
+macro_rules! declared {
+    ($read:expr, $kind:path) => {
+        match $read {
+            Ok((found, left)) => Ok(($kind(found), left)),
+            Err(fault) => Err(fault),
+        }
+    };
 }
 
 /// A declaration.
-fn declaration(alloc: Global, room: u32, tokens: &[Token]) -> Result<(Decl, &[Token]), Fault>
+fn declaration(alloc: Global, room: u32, tokens: &[Token]) -> Read<Decl>
     ensures { MatchResult result
-        (λ read. IsRead room (of declaration_form) (decl read.0) tokens.now tokens.now read.1.now)
-        (Refuses room (of declaration_form) tokens.now) }
+        (λ read. IsRead room (of declaration) (decl read.0) tokens.now tokens.now read.1.now)
+        (Refuses room (of declaration) tokens.now) }
 {
     if is_name(tokens) {
         return typed(alloc, room, tokens);
     }
     if is_word(Word::Transition, tokens) {
-        return transition_declaration(alloc, room, tokens);
+        return declared!(transition(alloc, room, tokens), Decl::Transition);
     }
     if is_word(Word::Action, tokens) {
-        return action_declaration(alloc, room, tokens);
+        return declared!(action(alloc, room, tokens), Decl::Action);
     }
     if is_word(Word::InPort, tokens) {
-        return in_port_declaration(alloc, room, tokens);
+        return declared!(in_port(alloc, room, tokens), Decl::InPort);
     }
     if is_word(Word::OutPort, tokens) {
-        return out_port_declaration(alloc, room, tokens);
+        return declared!(out_port(alloc, room, tokens), Decl::OutPort);
     }
     if is_word(Word::Structure, tokens) {
-        return structure_declaration(alloc, room, tokens);
+        return declared!(structure(alloc, room, tokens), Decl::Structure);
     }
     if is_word(Word::Enumeration, tokens) {
-        return enumeration_declaration(alloc, room, tokens);
+        return declared!(enumeration(alloc, room, tokens), Decl::Enumeration);
     }
     if is_word(Word::StateDeclaration, tokens) {
-        return states_declaration(alloc, room, tokens);
+        return declared!(states(alloc, room, tokens), Decl::States);
     }
     Err(refuse(room, tokens))
 }
 
 /// Declarations and `}`.
-fn closed_declarations(
-    alloc: Global,
-    room: u32,
-    tokens: &[Token],
-) -> Result<(Vec<Decl>, &[Token]), Fault>
+fn closed_declarations(alloc: Global, room: u32, tokens: &[Token]) -> Read<Vec<Decl>>
     ensures { MatchResult result
         (λ read. AreRead room closed_row (closed_parts read.0.items) tokens.now read.1.now)
         (Refuses room closed_row tokens.now) }
@@ -204,11 +187,7 @@ fn closed_declarations(
 }
 
 /// Declarations in braces.
-pub fn declaration_block(
-    alloc: Global,
-    room: u32,
-    tokens: &[Token],
-) -> Result<(Vec<Decl>, &[Token]), Fault>
+pub fn declaration_block(alloc: Global, room: u32, tokens: &[Token]) -> Read<Vec<Decl>>
     ensures { MatchResult result
         (λ read. AreRead room braces_row (braces_parts read.0.items) tokens.now read.1.now)
         (Refuses room braces_row tokens.now) }

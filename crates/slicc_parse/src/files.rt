@@ -1,30 +1,22 @@
 //! Whole files.
 ghost use Rattle.std.specs.Prelude.{◌≡◌, ◌==◌, ◌∷◌, ◌≤◌, [], IsTrue, length, not, IfOk, MatchResult};
-ghost use Rattle.slicc_ast.specs.Kinds.{has, is_ahead};
-ghost use Rattle.slicc_ast.specs.Outline.{covering};
+ghost use Rattle.slicc_ast.specs.Prelude.{has, is_ahead, covering, first_of_form, file, end_token, of, end_of_text, kind_of};
 ghost use Rattle.slicc_ast.specs.declared.tree.token.TokenKind.TheVariants.{End};
-ghost use Rattle.slicc_ast.specs.Ahead.{first_of_form};
-ghost use Rattle.slicc_ast.specs.Form.Form.{file as file_form};
-ghost use Rattle.slicc_ast.specs.Parts.{end_token, of};
-ghost use Rattle.slicc_ast.specs.TokenKinds.{end_of_text, kind_of};
-ghost use Rattle.slicc_lex.specs.Spells.{token_spans};
-ghost use Rattle.slicc_lex.specs.Syntax.{symbols};
-ghost use Rattle.slicc_parse.specs.Ends.{IsEndAt, IsFileRead};
-ghost use Rattle.slicc_parse.specs.Parsed.{AreEndedOnce, IsParse};
-ghost use Rattle.slicc_parse.specs.Rows.{file_parts, file_row};
-ghost use Rattle.slicc_reading.specs.Reading.{AreRead, Refuses};
+ghost use Rattle.slicc_lex.specs.Prelude.{token_spans, symbols};
+ghost use Rattle.slicc_parse.specs.Prelude.{IsEndAt, IsFileRead, AreEndedOnce, IsParse, file_parts, file_row};
+ghost use Rattle.slicc_reading.specs.Prelude.{AreRead, Refuses};
 
 use crate::items::{begins_item, several_items};
 use slicc_ast::tree::{Item, Span, TokenKind, Tree, Word};
 use slicc_ast::{Seq, Text};
-use slicc_decl::optional_protocol;
+use slicc_decl::{ReadBoth, optional_protocol};
 use slicc_lex::Token;
-use slicc_reading::{Fault, SyntaxFault, is_word, placed, refuse, room_within, split_first};
+use slicc_reading::{Read, SyntaxFault, is_word, placed, refuse, room_within, split_first};
 use std::alloc::Global;
 
 /// Whether the first token begins a file.
 fn begins_file(tokens: &[Token]) -> bool
-    ensures { result ≡ is_ahead (first_of_form file_form) (symbols tokens.now) }
+    ensures { result ≡ is_ahead (first_of_form file) (symbols tokens.now) }
 {
     is_word(Word::Protocol, tokens) || begins_item(tokens)
 }
@@ -50,7 +42,7 @@ fn is_end_kind(kind: &TokenKind) -> bool
 }
 
 /// Where the end token begins, and what is behind it.
-fn end_place(room: u32, tokens: &[Token]) -> Result<(u32, &[Token]), Fault>
+fn end_place(room: u32, tokens: &[Token]) -> Read<u32>
     ensures { MatchResult result
         (λ read. IsEndAt tokens.now read.0 read.1.now)
         (Refuses room end_token tokens.now) }
@@ -71,7 +63,7 @@ fn protocol_and_items(
     alloc: Global,
     room: u32,
     tokens: &[Token],
-) -> Result<(Option<Text>, Vec<Item>, &[Token]), Fault>
+) -> ReadBoth<Option<Text>, Vec<Item>>
     ensures read { MatchResult result
         (λ read. AreRead room file_row (file_parts read.0 read.1.items) tokens.now read.2.now)
         (Refuses room file_row tokens.now) }
@@ -90,10 +82,10 @@ fn protocol_and_items(
 }
 
 /// A file, and what is behind its end token.
-fn file(alloc: Global, room: u32, tokens: &[Token]) -> Result<(Tree, &[Token]), Fault>
+fn file(alloc: Global, room: u32, tokens: &[Token]) -> Read<Tree>
     ensures { MatchResult result
         (λ read. IsFileRead room read.0 tokens.now read.1.now)
-        (Refuses room (of file_form) tokens.now) }
+        (Refuses room (of file) tokens.now) }
 {
     if !begins_file(tokens) {
         return Err(refuse(room, tokens));

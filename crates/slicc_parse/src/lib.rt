@@ -3,11 +3,8 @@
 
 mod declarations;
 mod files;
-mod functions;
-mod handlers;
 mod items;
 mod laws;
-mod machines;
 mod typed;
 
 pub use files::parse;

@@ -13,25 +13,8 @@ use Rattle.slicc_ast.specs.declared.tree.machine.Decl.{Decl}
 use Rattle.slicc_ast.specs.declared.tree.machine.Decl.TheVariants as decl
 use Rattle.slicc_ast.specs.declared.tree.machine.Literal.{Literal}
 use Rattle.slicc_ast.specs.declared.tree.machine.Machine.{Machine}
-use Rattle.slicc_plan.specs.AllRules.{IsAccepted}
-use Rattle.slicc_plan.specs.Buffers.{BufferIn, buffer_in}
-use Rattle.slicc_plan.specs.Declarations.{Declaration, machine, parameter, object, function, within, global_declarations, machine_declarations, machine_in, machines_of, named_declarations, wide_scopes}
-use Rattle.slicc_plan.specs.FieldTypes.{refused_field_types}
-use Rattle.slicc_plan.specs.Limits.{all_declarations, beyond, beyond_in_body, beyond_in_declaration, beyond_in_machine, beyond_in_scope, built_in_enumerations, event_members, is_action, is_counted_function, is_counted_structure, is_enumeration, is_machine, is_object, is_port, is_sequencer, limit_passed, limits_passed, most_enumerations, most_machines, most_objects, most_of_each, most_ports, most_sequencers, most_structures, state_members}
-use Rattle.slicc_plan.specs.MachineValues.{line_kind, reference_in, reference_of_kind, value_in, value_of_kind}
-use Rattle.slicc_plan.specs.Prototypes.{unknown_built_ins}
-use Rattle.slicc_plan.specs.Scopes.{machine_bodies}
-use Rattle.slicc_plan.specs.Setups.{attributes_of}
-use Rattle.slicc_plan.specs.SymbolsOf.{symbols_of}
-use Rattle.slicc_plan.specs.SymbolsOfMachines.{action_symbol, buffer_of_place, buffer_symbol, buffer_symbols, function_symbol, function_with_body, in_port_symbol, machine_symbols, numbered_from, out_port_symbol, port_on_buffer, table_of_sort, table_symbol}
-use Rattle.slicc_plan.specs.Tables.{table_in}
-use Rattle.slicc_plan.specs.TwiceDeclared.{names_twice_declared}
-use Rattle.slicc_plan.specs.TypeNumbers.{plain_kind}
-use Rattle.slicc_plan.specs.Types.{KnownType, type_in}
-use Rattle.slicc_plan.specs.UnknownTypes.{unknown_types}
-use Rattle.slicc_plan.specs.Values.{bad_values}
+use Rattle.slicc_plan.specs.Prelude.{IsAccepted, BufferIn, buffer_in, Declaration, machine, parameter, object, function, within, global_declarations, machine_declarations, machine_in, machines_of, named_declarations, wide_scopes, refused_field_types, all_declarations, beyond, beyond_in_body, beyond_in_declaration, beyond_in_machine, beyond_in_scope, built_in_enumerations, event_members, is_action, is_counted_function, is_counted_structure, is_enumeration, is_machine, is_object, is_port, is_sequencer, limit_passed, limits_passed, most_enumerations, most_machines, most_objects, most_of_each, most_ports, most_sequencers, most_structures, state_members, line_kind, reference_in, reference_of_kind, value_in, value_of_kind, unknown_built_ins, machine_bodies, attributes_of, symbols_of, action_symbol, buffer_of_place, buffer_symbol, buffer_symbols, function_symbol, function_with_body, in_port_symbol, machine_symbols, numbered_from, out_port_symbol, port_on_buffer, table_of_sort, table_symbol, table_in, names_twice_declared, plain_kind, KnownType, type_in, unknown_types, bad_values, HasNumbers}
 use Rattle.slicc_plan.proofs.Room.{left_none, mapped_at, none_at, right_none}
-use Rattle.slicc_plan.specs.Lawful.{HasNumbers}
 use Rattle.slicc_plan.proofs.Machines.{all_machines, symbols_counted}
 
 -- what isn't beyond a limit

@@ -6,7 +6,7 @@ use Rattle.std.proofs.Common.{append-nil, append_assoc}
 use Rattle.std.proofs.lemmas.Grind.{flat_map-append}
 use Rattle.std.proofs.lemmas.List.Elements.{All-push, All-nil, Contains-append_left}
 use Rattle.slicc_plan.specs.declared.broken.Broken.{Broken}
-use Rattle.slicc_plan.specs.Order.{IsFirstBroken, IsFirstOf, comes_before, earlier_of, earlier_of_both, first_after, first_of, is_less, rank_of}
+use Rattle.slicc_plan.specs.Prelude.{IsFirstBroken, IsFirstOf, comes_before, earlier_of, earlier_of_both, first_after, first_of, is_less, rank_of}
 
 pub equal_unless_less : (ms ns : List ℕ) → is_less ms ns ≡ false → is_less ns ms ≡ false → ms ≡ ns
 equal_unless_less [] [] h k = refl

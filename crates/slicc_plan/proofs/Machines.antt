@@ -6,10 +6,7 @@ use Rattle.ruby_symbols.specs.declared.machine.MachineSymbols.{MachineSymbols}
 use Rattle.slicc_ast.specs.declared.tree.item.Tree.{Tree}
 use Rattle.slicc_ast.specs.declared.tree.machine.Machine.{Machine}
 use Rattle.slicc_plan.specs.declared.broken.Broken.{Broken}
-use Rattle.slicc_plan.specs.Declarations.{machines_of}
-use Rattle.slicc_plan.specs.Machines.{in_each_from}
-use Rattle.slicc_plan.specs.SymbolsOf.{machines_from, symbols_of}
-use Rattle.slicc_plan.specs.SymbolsOfMachines.{machine_symbols}
+use Rattle.slicc_plan.specs.Prelude.{machines_of, in_each_from, machines_from, symbols_of, machine_symbols}
 use Rattle.slicc_plan.proofs.Room.{left_none, right_none}
 
 -- by their numbers

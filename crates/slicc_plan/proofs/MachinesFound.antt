@@ -3,11 +3,10 @@ use Rattle.std.proofs.Common.{◌≡◌, ◌++◌, ◌+◌, ◌-◌, ◌≤◌, 
 use Rattle.std.proofs.lemmas.Grind.{flat_map-append}
 use Rattle.std.proofs.lemmas.List.{take_all}
 use Rattle.slicc_ast.specs.declared.tree.item.Item.{Item}
-use Rattle.slicc_ast.specs.declared.tree.item.Item.TheVariants.{Include, Enumeration as EnumerationItem, Structure as StructureItem, Machine as MachineItem}
+use Rattle.slicc_ast.specs.declared.tree.item.Item.TheVariants.{Include, Enumeration, Structure, Machine as MachineItem}
 use Rattle.slicc_ast.specs.declared.tree.item.Tree.{Tree}
 use Rattle.slicc_ast.specs.declared.tree.machine.Machine.{Machine}
-use Rattle.slicc_plan.specs.Declarations.{global_declarations, item_declarations, machine_in, machines_of}
-use Rattle.slicc_plan.specs.MachineAmong.{machines_among}
+use Rattle.slicc_plan.specs.Prelude.{global_declarations, item_declarations, machine_in, machines_of, machines_among}
 
 pub get_in_first : {X : Type 0} (xs ys : List X) (n : ℕ) (x : X) → slice_get xs n ≡ Some x → slice_get (xs ++ ys) n ≡ Some x
 get_in_first [] ys n x e = cc
@@ -45,9 +44,9 @@ found_at (x ∷ items) zero d m n left below at is none before =
     subst (λ k. slice_get (machines_among (x ∷ items)) k ≡ Some m) (sym n_is) (subst (λ y. slice_get (machines_among (y ∷ items)) 0 ≡ Some m) (sym x_is) refl)
 found_at (Include text span ∷ items) (suc i) d m n left below at is none before =
     found_at items i d m n left (omega (arith, below)) at is none before
-found_at (EnumerationItem e ∷ items) (suc i) d m n left below at is none before =
+found_at (Enumeration e ∷ items) (suc i) d m n left below at is none before =
     found_at items i d m n left (omega (arith, below)) at is none before
-found_at (StructureItem s ∷ items) (suc i) d m n left below at is none before =
+found_at (Structure s ∷ items) (suc i) d m n left below at is none before =
     found_at items i d m n left (omega (arith, below)) at is none before
 found_at (MachineItem k ∷ items) (suc i) d m zero left below at is none before = absurd (omega (arith, before))
 found_at (MachineItem k ∷ items) (suc i) d m (suc n) left below at is none before =

@@ -10,26 +10,11 @@ use Rattle.slicc_ast.specs.declared.tree.span.Span.{Span}
 use Rattle.slicc_plan.specs.declared.built_in.BuiltInType.{BuiltInType}
 use Rattle.slicc_plan.specs.declared.built_in.BuiltInType.TheVariants.{Request}
 use Rattle.slicc_plan.specs.declared.broken.Rule.TheVariants.{NoStates}
-use Rattle.slicc_plan.specs.AllRules.{IsAccepted}
-use Rattle.slicc_plan.specs.BodySizes.{large_bodies}
-use Rattle.slicc_plan.specs.Buffers.{BufferIn, Place, own, to_network, from_network, PortOn, buffer_named, port_in, port_on, ports_of}
+use Rattle.slicc_plan.specs.Prelude.{IsAccepted, large_bodies, BufferIn, Place, own, to_network, from_network, PortOn, buffer_named, port_on, ports_of, call_circles, Declaration, machine, Scope, everywhere, within, first_named, global_declarations, is_external, is_named, machine_declarations, machine_names, machines_of, wide_scopes, refused_field_types, event_members, is_states, limits_passed, members_of_found, is_empty, missing_machine, missing_parts, missing_parts_in, is_on, is_on_network, port_message, type_at, all_ports, all_ports_from, is_mandatory, wrong_networks, told_unless, unknown_built_in, unknown_built_ins, unknown_built_ins_in, unknown_structure, reading_changes, wrong_state_functions, names_twice_declared, made_in, made_with_its_own, scoped_declarations, shared_pairs, KnownType, built_in, structured, declared_type, external_type, global_type, structure_type, table_named, type_in, type_of_found, type_where, unknown_types, bad_values}
+use Rattle.slicc_plan.specs.Buffers.{port_in}
 use Rattle.slicc_plan.specs.BuiltIn.{built_in_type}
-use Rattle.slicc_plan.specs.CallsBetween.{call_circles}
-use Rattle.slicc_plan.specs.Declarations.{Declaration, machine, structure, in_port, out_port, Scope, everywhere, within, first_named, global_declarations, is_external, is_named, machine_declarations, machine_names, machines_of, wide_scopes}
-use Rattle.slicc_plan.specs.FieldTypes.{refused_field_types}
-use Rattle.slicc_plan.specs.Limits.{event_members, is_states, limits_passed, members_of_found}
-use Rattle.slicc_plan.specs.MachineParts.{is_empty, missing_machine, missing_parts, missing_parts_in}
-use Rattle.slicc_plan.specs.MessageTypes.{is_on, is_on_network, message_type, port_message, type_at}
-use Rattle.slicc_plan.specs.Networks.{all_ports, all_ports_from, is_mandatory, wrong_networks}
-use Rattle.slicc_plan.specs.Prototypes.{told_unless, unknown_built_in, unknown_built_ins, unknown_built_ins_in, unknown_structure}
-use Rattle.slicc_plan.specs.ReadOnly.{reading_changes}
-use Rattle.slicc_plan.specs.StateFunctions.{wrong_state_functions}
-use Rattle.slicc_plan.specs.TwiceDeclared.{names_twice_declared}
-use Rattle.slicc_plan.specs.TypeNumbers.{made_in, made_with_its_own, scoped_declarations}
-use Rattle.slicc_plan.specs.TwoTransitions.{shared_pairs}
-use Rattle.slicc_plan.specs.Types.{KnownType, built_in, structured, declared_type, external_type, global_type, structure_type, table_named, type_in, type_of_found, type_where}
-use Rattle.slicc_plan.specs.UnknownTypes.{unknown_types}
-use Rattle.slicc_plan.specs.Values.{bad_values}
+use Rattle.slicc_plan.specs.Declarations.{structure, in_port, out_port}
+use Rattle.slicc_plan.specs.MessageTypes.{message_type}
 use Rattle.slicc_plan.proofs.Room.{mapped_at, none_at, right_none}
 use Rattle.slicc_plan.proofs.Machines.{none_in_one}
 use Rattle.slicc_plan.proofs.There.{There, all_there, in_machine, machine_there, there_first, there_flat, there_found, there_later}

@@ -9,17 +9,8 @@ use Rattle.ruby_value.proofs.Ordered.{AllPairs-append, AllPairs-head, AllPairs-n
 use Rattle.slicc_ast.specs.declared.tree.item.Tree.{Tree}
 use Rattle.slicc_ast.specs.declared.tree.machine.Machine.{Machine}
 use Rattle.slicc_ast.specs.declared.tree.name.Name.{Name}
-use Rattle.slicc_plan.specs.AllRules.{IsAccepted}
-use Rattle.slicc_plan.specs.Buffers.{is_same_scope}
-use Rattle.slicc_plan.specs.Declarations.{Declaration, machine, Scope, everywhere, within, global_declarations, machine_declarations, name_of}
-use Rattle.slicc_plan.specs.FieldTypes.{refused_field_types}
-use Rattle.slicc_plan.specs.Limits.{limits_passed}
-use Rattle.slicc_plan.specs.Prototypes.{unknown_built_ins}
-use Rattle.slicc_plan.specs.Scopes.{global_scopes, inner_scopes, scopes_within}
-use Rattle.slicc_plan.specs.TwiceDeclared.{declaration_told, first_with, globally_repeated_after, listed, names_of, names_twice_declared, repeated, repeated_after, takes_built_in_name, told_after, told_globally, told_with}
-use Rattle.slicc_plan.specs.TypeNumbers.{ScopedDeclaration, made_in, made_with_its_own, scoped_declarations}
-use Rattle.slicc_plan.specs.UnknownTypes.{unknown_types}
-use Rattle.slicc_plan.specs.Values.{bad_values}
+use Rattle.slicc_plan.specs.Prelude.{IsAccepted, is_same_scope, Declaration, machine, Scope, everywhere, within, global_declarations, machine_declarations, name_of, refused_field_types, limits_passed, unknown_built_ins, global_scopes, inner_scopes, scopes_within, declaration_told, first_with, globally_repeated_after, names_twice_declared, repeated, repeated_after, takes_built_in_name, told_after, told_globally, ScopedDeclaration, made_in, made_with_its_own, scoped_declarations, unknown_types, bad_values}
+use Rattle.slicc_plan.specs.TwiceDeclared.{listed, names_of, told_with}
 use Rattle.slicc_plan.proofs.Room.{left_none, right_none}
 use Rattle.slicc_plan.proofs.There.{There, all_there}
 

@@ -6,20 +6,11 @@ use Rattle.ruby_symbols.specs.declared.machine.BufferSymbol.{BufferSymbol}
 use Rattle.slicc_ast.specs.declared.tree.declaration.Pairs.{Pairs}
 use Rattle.slicc_ast.specs.declared.tree.item.Tree.{Tree}
 use Rattle.slicc_ast.specs.declared.tree.machine.Machine.{Machine}
-use Rattle.slicc_plan.specs.AllRules.{IsAccepted}
-use Rattle.slicc_plan.specs.Buffers.{BufferIn, Place, own, to_network, from_network, buffer_in}
-use Rattle.slicc_plan.specs.Declarations.{Declaration, within, machine_declarations, machines_of}
-use Rattle.slicc_plan.specs.MessageTypes.{message_type, network_type, type_at}
-use Rattle.slicc_plan.specs.Setups.{attributes_of, buffer_place}
-use Rattle.ruby_value.specs.NetworkOf.{network_of}
-use Rattle.slicc_plan.specs.SymbolsOf.{symbols_of}
-use Rattle.slicc_plan.specs.SymbolsOfMachines.{buffer_of_place, buffer_symbol, machine_symbols}
-use Rattle.slicc_plan.specs.TypeNumbers.{structure_number}
-use Rattle.slicc_plan.specs.Types.{KnownType}
-use Rattle.slicc_plan.specs.Values.{bad_values_of}
+use Rattle.slicc_plan.specs.Prelude.{IsAccepted, BufferIn, Place, own, to_network, from_network, buffer_in, Declaration, within, machine_declarations, machines_of, network_type, type_at, attributes_of, buffer_place, symbols_of, buffer_of_place, buffer_symbol, machine_symbols, structure_number, KnownType, bad_values_of, CarriesOneMessage, HasNetworks}
+use Rattle.slicc_plan.specs.MessageTypes.{message_type}
+use Rattle.ruby_value.specs.Prelude.{network_of}
 use Rattle.slicc_plan.proofs.Room.{left_none, right_none, values_kept}
 use Rattle.slicc_plan.proofs.SetupNetworks.{BufferInLimits, PlaceInLimits, declared_within}
-use Rattle.slicc_plan.specs.Lawful.{CarriesOneMessage, HasNetworks}
 use Rattle.slicc_plan.proofs.Machines.{all_machines}
 
 abbrev OnNetwork : BufferSymbol → Type 0

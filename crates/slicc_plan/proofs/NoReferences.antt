@@ -10,7 +10,7 @@ use Rattle.ruby_value.specs.declared.setup.Sizes.{Sizes}
 use Rattle.ruby_value.specs.declared.setup.TableSetup.{TableSetup}
 use Rattle.ruby_value.specs.declared.setup.TableSize.{TableSize}
 use Rattle.ruby_value.specs.declared.value.Value.{Value}
-use Rattle.ruby_value.specs.IsReference.{is_reference}
+use Rattle.ruby_value.specs.Prelude.{is_reference}
 use Rattle.ruby_symbols.specs.declared.machine.TableSort.{TableSort}
 use Rattle.ruby_symbols.specs.declared.types.FieldSymbol.{FieldSymbol}
 use Rattle.slicc_ast.specs.declared.tree.declaration.Pairs.{Pairs}
@@ -20,17 +20,10 @@ use Rattle.slicc_ast.specs.declared.tree.machine.Machine.{Machine}
 use Rattle.slicc_ast.specs.declared.tree.machine.Literal.{Literal}
 use Rattle.slicc_plan.specs.declared.built_in.BuiltInType.{BuiltInType}
 use Rattle.slicc_plan.specs.declared.built_in.BuiltInType.TheVariants.{Int, Cycles, Tick, Bool as Boolean, Address, MachineId, MachineType, NetDest, DataBlock, AccessPermission, RequestType, MessageSize, Request, AbstractEntry, Void, Cache, Directory, TbeTable, Sequencer, Buffer}
-use Rattle.slicc_plan.specs.Buffers.{BufferIn, buffer_in}
-use Rattle.slicc_plan.specs.BuiltIn.{NamedType, is_same_type, request_fields}
-use Rattle.slicc_plan.specs.Declarations.{Declaration, machine, enumeration, structure, states, parameter, object, out_port, in_port, action, function, symbol, state, member as member_declaration, formal, local, Scope, within, machine_declarations}
-use Rattle.slicc_plan.specs.FieldTypes.{field_type}
-use Rattle.slicc_plan.specs.InitialFields.{field_kind, field_kinds, message_kinds, request_kinds, structure_fields}
-use Rattle.slicc_plan.specs.MachineValues.{value_in, value_of_kind, value_of_type, values_of}
+use Rattle.slicc_plan.specs.Prelude.{BufferIn, buffer_in, NamedType, is_same_type, request_fields, Declaration, machine, states, parameter, object, action, function, symbol, state, member as member_declaration, formal, local, Scope, within, machine_declarations, field_type, field_kind, field_kinds, message_kinds, request_kinds, structure_fields, value_in, value_of_kind, values_of, attributes_of, buffer_by, kinds_on, parameter_table, range_values, setup_in, table_of_lines, table_size, tables_from, line_structure, tables_of, built_in_kind, declared_number, default_member, kind_or_bool, plain_kind, KnownType, built_in, enumerated, structured, type_in}
+use Rattle.slicc_plan.specs.Declarations.{enumeration, structure, out_port, in_port}
+use Rattle.slicc_plan.specs.MachineValues.{value_of_type}
 use Rattle.slicc_plan.specs.MessageTypes.{message_type}
-use Rattle.slicc_plan.specs.Setups.{attributes_of, buffer_by, kinds_on, parameter_table, range_values, setup_in, table_of_lines, table_size, tables_from}
-use Rattle.slicc_plan.specs.Tables.{line_structure, tables_of}
-use Rattle.slicc_plan.specs.TypeNumbers.{built_in_kind, declared_number, default_member, kind_or_bool, plain_kind}
-use Rattle.slicc_plan.specs.Types.{KnownType, built_in, enumerated, structured, type_in}
 
 abbrev IsPlain : Kind → Type 0
 IsPlain k = is_reference k ≡ false

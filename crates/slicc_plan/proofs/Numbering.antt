@@ -14,7 +14,7 @@ use Rattle.ruby_symbols.specs.declared.machine.FunctionSymbol.{FunctionSymbol}
 use Rattle.ruby_symbols.specs.declared.machine.MachineSymbols.{MachineSymbols}
 use Rattle.ruby_symbols.specs.declared.machine.TableSort.TheVariants as sort
 use Rattle.ruby_symbols.specs.declared.machine.TableSymbol.{TableSymbol}
-use Rattle.ruby_symbols.specs.Numbers.{number_of, short_number}
+use Rattle.ruby_symbols.specs.Prelude.{number_of, short_number}
 use Rattle.slicc_ast.specs.declared.tree.declaration.Function.{Function}
 use Rattle.slicc_ast.specs.declared.tree.declaration.Function.TheVariants.{Plain, Skipped}
 use Rattle.slicc_ast.specs.declared.tree.declaration.Pairs.{Pairs}
@@ -29,20 +29,13 @@ use Rattle.slicc_ast.specs.declared.tree.name.Name.{Name}
 use Rattle.slicc_plan.specs.declared.built_in.BuiltInType.TheVariants.{Cache, Directory, TbeTable}
 use Rattle.slicc_plan.specs.declared.part.Body.{Body}
 use Rattle.slicc_plan.specs.declared.row.Written.{Written as WrittenTransition}
-use Rattle.slicc_plan.specs.AllRules.{IsAccepted}
-use Rattle.slicc_plan.specs.BodyParts.{Written, action_bodies, action_in, function_in, is_table_type, name_of_type, names_of_written, number_in, table_names, written_actions, written_functions}
-use Rattle.slicc_plan.specs.Declarations.{Declaration, parameter, object, action, within, global_declarations, is_named, machine_declarations, machines_of, name_of, named_declarations}
-use Rattle.slicc_plan.specs.Limits.{is_action}
-use Rattle.slicc_plan.specs.Machines.{actions_of, transitions_of, written, written_of}
+use Rattle.slicc_plan.specs.Prelude.{IsAccepted, action_bodies, action_in, function_in, is_table_type, name_of_type, names_of_written, number_in, table_names, written_actions, written_functions, Declaration, parameter, object, action, within, global_declarations, is_named, machine_declarations, machines_of, name_of, named_declarations, is_action, actions_of, transitions_of, written, written_of, action_symbol, action_symbols, function_symbol, function_symbols, machine_symbols, numbered_from, table_of_sort, table_symbol, transition_symbol, checks_at, checks_or_none, needs, needs_of, table_sort, written_entries, first_with, repeated, repeated_after, told_after, KnownType, is_built_in, type_in, HasNumbers, HasOneNumbering, HasSymbols, need_by, rows_by}
+use Rattle.slicc_plan.specs.BodyParts.{Written}
 use Rattle.slicc_plan.specs.Machines as plan
-use Rattle.slicc_plan.specs.SymbolsOfMachines.{action_symbol, action_symbols, function_symbol, function_symbols, machine_symbols, numbered_from, table_of_sort, table_symbol, transition_symbol}
-use Rattle.slicc_plan.specs.TableNeeds.{checks_at, checks_or_none, need_of, needs, needs_of}
-use Rattle.slicc_plan.specs.Tables.{table_sort, written_entries}
-use Rattle.slicc_plan.specs.TwiceDeclared.{first_with, listed, names_of, repeated, repeated_after, told_after, told_with}
-use Rattle.slicc_plan.specs.Types.{KnownType, is_built_in, type_in}
+use Rattle.slicc_plan.specs.TableNeeds.{need_of}
+use Rattle.slicc_plan.specs.TwiceDeclared.{listed, names_of, told_with}
 use Rattle.slicc_plan.proofs.Room.{left_none, right_none}
-use Rattle.slicc_plan.specs.Lawful.{HasNumbers}
-use Rattle.slicc_plan.specs.Numbering.{HasOneNumbering, HasSymbols, is_for, need_by, row_of, rows_by, rows_from}
+use Rattle.slicc_plan.specs.Numbering.{is_for, row_of, rows_from}
 use Rattle.slicc_plan.specs.Numbering as by_symbols
 use Rattle.slicc_plan.proofs.Counted.{machine_has_numbers}
 use Rattle.slicc_plan.proofs.Machines.{symbols_at}

@@ -3,10 +3,9 @@ use Rattle.std.proofs.Common.{◌≡◌, Ok, Err, Some, None, List, []}
 use Rattle.slicc_ast.specs.declared.tree.item.Tree.{Tree}
 use Rattle.slicc_plan.specs.declared.broken.Broken.{Broken}
 use Rattle.slicc_plan.specs.declared.refusal.Refusal.{Refusal}
-use Rattle.slicc_plan.specs.AllRules.{IsPlanOf, keeps_all, breaks_one, no_memory, of_declarations, of_bodies, of_machines}
-use Rattle.slicc_plan.specs.BrokenBodies.{broken_bodies}
-use Rattle.slicc_plan.specs.BrokenDeclarations.{IsAnswered, keeps_all as phase_keeps, breaks_one as phase_breaks, no_memory as phase_stops, broken_declarations}
-use Rattle.slicc_plan.specs.BrokenMachines.{broken_machines}
+use Rattle.slicc_plan.specs.AllRules.{keeps_all, breaks_one, no_memory}
+use Rattle.slicc_plan.specs.Prelude.{IsPlanOf, of_declarations, of_bodies, of_machines, broken_bodies, IsAnswered, broken_declarations, broken_machines}
+use Rattle.slicc_plan.specs.BrokenDeclarations.{keeps_all as phase_keeps, breaks_one as phase_breaks, no_memory as phase_stops}
 
 kept : (broken : List Broken) → IsAnswered broken None → broken ≡ []
 kept broken (phase_keeps e) = e

@@ -11,8 +11,7 @@ use Rattle.std.proofs.lemmas.List.Folds.{list_any_none}
 use Rattle.std.proofs.lemmas.Slice.Eq.{bytes_eq-Decides}
 use Rattle.ruby_value.proofs.Ordered.{AllPairs-head, AllPairs-tail}
 use Rattle.ruby_symbols.specs.declared.machine.FunctionSymbol.{FunctionSymbol}
-use Rattle.ruby_symbols.specs.Names.{function_among}
-use Rattle.ruby_symbols.specs.Numbers.{number_of}
+use Rattle.ruby_symbols.specs.Prelude.{function_among, number_of}
 use Rattle.slicc_ast.specs.declared.tree.declaration.Function.TheVariants.{Plain, Skipped}
 use Rattle.slicc_ast.specs.declared.tree.item.Tree.{Tree}
 use Rattle.slicc_ast.specs.declared.tree.machine.Decl.{Decl}
@@ -20,12 +19,7 @@ use Rattle.slicc_ast.specs.declared.tree.machine.Decl.TheVariants as decl
 use Rattle.slicc_ast.specs.declared.tree.machine.Machine.{Machine}
 use Rattle.slicc_ast.specs.declared.tree.machine.Parameter.{Parameter}
 use Rattle.slicc_ast.specs.declared.tree.name.Name.{Name}
-use Rattle.slicc_plan.specs.AllRules.{IsAccepted}
-use Rattle.slicc_plan.specs.BuiltInCalls.{is_call, permission_call}
-use Rattle.slicc_plan.specs.Declarations.{Declaration, parameter, function, within, first_named, global_declarations, is_named, is_text, machine_declarations, machine_names, machines_of, name_of, named_declarations}
-use Rattle.slicc_plan.specs.Machines.{function_found, function_named}
-use Rattle.slicc_plan.specs.Prototypes.{told_unless, unknown_built_in}
-use Rattle.slicc_plan.specs.SymbolsOfMachines.{function_symbol, function_symbols, numbered_from}
+use Rattle.slicc_plan.specs.Prelude.{IsAccepted, is_call, permission_call, Declaration, parameter, function, within, first_named, global_declarations, is_named, is_text, machine_declarations, machine_names, machines_of, name_of, named_declarations, function_found, function_named, told_unless, unknown_built_in, function_symbol, function_symbols, numbered_from}
 use Rattle.slicc_plan.proofs.Room.{mapped_at, none_at}
 use Rattle.slicc_plan.proofs.Messages.{none_unknown}
 use Rattle.slicc_plan.proofs.Names.{Apart, machine_apart}

@@ -7,24 +7,10 @@ use Rattle.slicc_ast.specs.declared.tree.declaration.Pairs.{Pairs}
 use Rattle.slicc_ast.specs.declared.tree.item.Tree.{Tree}
 use Rattle.slicc_ast.specs.declared.tree.machine.Machine.{Machine}
 use Rattle.slicc_plan.specs.declared.broken.Broken.{Broken}
-use Rattle.slicc_plan.specs.AllRules.{IsAccepted}
-use Rattle.slicc_plan.specs.BodySizes.{large_bodies}
-use Rattle.slicc_plan.specs.Buffers.{BufferIn, Place, own, to_network, from_network, buffer_in, buffers_of, listed}
-use Rattle.slicc_plan.specs.CallsBetween.{call_circles}
-use Rattle.slicc_plan.specs.Declarations.{Declaration, machine_declarations, machines_of}
-use Rattle.slicc_plan.specs.MachineParts.{missing_machine, missing_parts}
-use Rattle.slicc_plan.specs.Machines.{in_each}
+use Rattle.slicc_plan.specs.Prelude.{IsAccepted, large_bodies, BufferIn, Place, own, to_network, from_network, buffer_in, buffers_of, call_circles, Declaration, machine_declarations, machines_of, missing_machine, missing_parts, in_each, all_ports, are_from_one, differing_after, doubled_after, doubled_in, networks_broken, wrong_networks, wrong_ports_in, reading_changes, attributes_of, buffer_place, wrong_state_functions, symbols_of, buffer_of_place, buffer_symbol, machine_symbols, shared_pairs, KnownType, ReceivesOnce, is_from}
+use Rattle.slicc_plan.specs.Buffers.{listed}
 use Rattle.slicc_plan.specs.MessageTypes.{message_type}
-use Rattle.slicc_plan.specs.Networks.{all_ports, are_from_one, differing_after, doubled_after, doubled_in, networks_broken, wrong_networks, wrong_ports_in}
-use Rattle.slicc_plan.specs.ReadOnly.{reading_changes}
-use Rattle.slicc_plan.specs.Setups.{attributes_of, buffer_place}
-use Rattle.slicc_plan.specs.StateFunctions.{wrong_state_functions}
-use Rattle.slicc_plan.specs.SymbolsOf.{symbols_of}
-use Rattle.slicc_plan.specs.SymbolsOfMachines.{buffer_of_place, buffer_symbol, machine_symbols}
-use Rattle.slicc_plan.specs.TwoTransitions.{shared_pairs}
-use Rattle.slicc_plan.specs.Types.{KnownType}
 use Rattle.slicc_plan.proofs.Room.{left_none, right_none}
-use Rattle.slicc_plan.specs.Lawful.{ReceivesOnce, is_from}
 use Rattle.slicc_plan.proofs.Machines.{all_machines, none_in_one}
 
 abbrev is_from_place : ℕ → Place → Bool

@@ -15,16 +15,9 @@ use Rattle.slicc_ast.specs.declared.tree.declaration.Pairs.{Pairs}
 use Rattle.slicc_ast.specs.declared.tree.item.Tree.{Tree}
 use Rattle.slicc_ast.specs.declared.tree.machine.Machine.{Machine}
 use Rattle.slicc_plan.specs.declared.built_in.BuiltInType.TheVariants.{Int, Cycles, Tick, Bool as Boolean, Address, MachineId, MachineType, NetDest, DataBlock, AccessPermission, RequestType, MessageSize, Request, AbstractEntry, Void, Cache, Directory, TbeTable, Sequencer, Buffer}
-use Rattle.slicc_plan.specs.Buffers.{BufferIn, Place, own, to_network, from_network, buffer_in}
-use Rattle.slicc_plan.specs.Declarations.{Declaration, member, Scope, machine_declarations}
+use Rattle.slicc_plan.specs.Prelude.{BufferIn, Place, own, to_network, from_network, buffer_in, Declaration, member, Scope, machine_declarations, field_kind, is_field, receivers_field, is_destination, NamesReceivers, attributes_of, buffer_by, buffer_place, is_ordered, kinds_on, setup_in, kind_or_bool, plain_kind, KnownType, built_in, enumerated, structured, is_built_in, type_in}
 use Rattle.slicc_plan.specs.FieldTypes.{field_of}
-use Rattle.slicc_plan.specs.InitialFields.{field_kind}
-use Rattle.slicc_plan.specs.Limits.{is_field}
-use Rattle.slicc_plan.specs.MessageTypes.{message_type, receivers_field}
-use Rattle.slicc_plan.specs.Networks.{is_destination}
-use Rattle.slicc_plan.specs.Setups.{NamesReceivers, attributes_of, buffer_by, buffer_place, is_ordered, kinds_on, setup_in}
-use Rattle.slicc_plan.specs.TypeNumbers.{kind_or_bool, plain_kind}
-use Rattle.slicc_plan.specs.Types.{KnownType, built_in, enumerated, structured, is_built_in, type_in}
+use Rattle.slicc_plan.specs.MessageTypes.{message_type}
 
 -- what a list has at the first place that passes
 position_gets : {X : Type 0} (p : X → Bool) (xs : List X) (n : ℕ) → position p xs ≡ Some n → (x : X) × (slice_get xs n ≡ Some x) × (p x ≡ true)

@@ -3,7 +3,7 @@ use Rattle.std.proofs.Common.{◌≡◌, ◌++◌, ◌+◌, ◌≤◌, ◌==◌,
 use Rattle.std.specs.List.{cons_option}
 use Rattle.std.specs.Prelude.{codes, find, filter_map, unwrap_or}
 use Rattle.std.proofs.lemmas.List.Elements.{All-head, All-tail, All-cons, All-nil, All-push}
-use Rattle.slicc_ast.specs.Bytes.{is_between}
+use Rattle.slicc_ast.specs.Prelude.{is_between}
 use Rattle.ruby_value.specs.declared.setup.Sizes.{Sizes}
 use Rattle.ruby_value.specs.declared.setup.TableSetup.{TableSetup}
 use Rattle.ruby_value.specs.declared.setup.TableSize.{TableSize}
@@ -14,19 +14,9 @@ use Rattle.slicc_ast.specs.declared.tree.declaration.Structure.{Structure}
 use Rattle.slicc_ast.specs.declared.tree.item.Tree.{Tree}
 use Rattle.slicc_ast.specs.declared.tree.machine.Machine.{Machine}
 use Rattle.slicc_plan.specs.declared.built_in.BuiltInType.TheVariants.{Buffer, Cache, Directory, TbeTable}
-use Rattle.slicc_plan.specs.AllRules.{IsAccepted}
-use Rattle.slicc_plan.specs.Attributes.{Attribute, attributes, is_within, number_value}
-use Rattle.slicc_plan.specs.Buffers.{attribute_number}
-use Rattle.slicc_plan.specs.Declarations.{Declaration, machine, enumeration, structure, states, parameter, object, out_port, in_port, action, function, symbol, state, member, formal, local, within, machine_declarations, machines_of, wide_scopes}
-use Rattle.slicc_plan.specs.FieldTypes.{refused_field_types}
-use Rattle.slicc_plan.specs.Limits.{limits_passed}
-use Rattle.slicc_plan.specs.Prototypes.{unknown_built_ins}
-use Rattle.slicc_plan.specs.Setups.{AreSizesOf, HasRoom, cache_size, parameter_table, setup_in, table_of_lines, table_size, tables_from, tbe_size}
-use Rattle.slicc_plan.specs.Tables.{line_structure, table_in, table_sort, tables_of, written_entries}
-use Rattle.slicc_plan.specs.TwiceDeclared.{names_twice_declared}
-use Rattle.slicc_plan.specs.Types.{KnownType, is_built_in, type_in}
-use Rattle.slicc_plan.specs.UnknownTypes.{unknown_types}
-use Rattle.slicc_plan.specs.Values.{bad_buffer_attributes, bad_entries, bad_field_defaults, bad_literal, bad_object_attributes, bad_value, bad_values, bad_values_in, bad_values_of, is_number_within}
+use Rattle.slicc_plan.specs.Prelude.{IsAccepted, Attribute, attributes, is_within, number_value, attribute_number, Declaration, machine, states, parameter, object, action, function, symbol, state, member, formal, local, within, machine_declarations, machines_of, wide_scopes, refused_field_types, limits_passed, unknown_built_ins, AreSizesOf, cache_size, parameter_table, setup_in, table_of_lines, table_size, tables_from, tbe_size, line_structure, table_in, table_sort, tables_of, written_entries, names_twice_declared, KnownType, is_built_in, type_in, unknown_types, bad_buffer_attributes, bad_entries, bad_field_defaults, bad_literal, bad_object_attributes, bad_value, bad_values, bad_values_in, bad_values_of, is_number_within}
+use Rattle.slicc_plan.specs.Declarations.{enumeration, structure, out_port, in_port}
+use Rattle.slicc_plan.specs.Setups.{HasRoom}
 
 -- what is in no list that is empty
 

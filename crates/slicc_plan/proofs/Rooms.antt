@@ -6,14 +6,9 @@ use Rattle.ruby_symbols.specs.declared.machine.TableSort.TheVariants as sort
 use Rattle.ruby_symbols.specs.declared.machine.TableSymbol.{TableSymbol}
 use Rattle.slicc_ast.specs.declared.tree.item.Tree.{Tree}
 use Rattle.slicc_ast.specs.declared.tree.machine.Machine.{Machine}
-use Rattle.slicc_plan.specs.AllRules.{IsAccepted}
-use Rattle.slicc_plan.specs.Declarations.{Declaration, parameter, object, within, machine_declarations, machines_of}
-use Rattle.slicc_plan.specs.SymbolsOf.{symbols_of}
-use Rattle.slicc_plan.specs.SymbolsOfMachines.{machine_symbols, table_of_sort, table_symbol}
-use Rattle.slicc_plan.specs.Tables.{table_in}
-use Rattle.slicc_plan.specs.Values.{bad_values_of}
+use Rattle.slicc_plan.specs.Prelude.{IsAccepted, Declaration, parameter, object, within, machine_declarations, machines_of, symbols_of, machine_symbols, table_of_sort, table_symbol, table_in, bad_values_of, HasEntries}
 use Rattle.slicc_plan.proofs.Room.{OptionInLimits, SortInLimits, declared_within, left_none, right_none, values_kept}
-use Rattle.slicc_plan.specs.Lawful.{HasEntries, HasRoom}
+use Rattle.slicc_plan.specs.Lawful.{HasRoom}
 use Rattle.slicc_plan.proofs.Machines.{all_machines}
 
 abbrev Roomy : TableSymbol → Type 0

@@ -9,9 +9,7 @@ use Rattle.ruby_value.specs.declared.setup.TableSetup.{TableSetup}
 use Rattle.ruby_value.specs.declared.setup.TableSize.{TableSize}
 use Rattle.ruby_value.specs.declared.value.Value.{Value}
 use Rattle.ruby_value.specs.declared.value.Value.TheVariants as value
-use Rattle.ruby_value.specs.DefaultValue.{default_value}
-use Rattle.ruby_value.specs.HasKind.{has_kind}
-use Rattle.ruby_value.specs.HasKinds.{has_kinds}
+use Rattle.ruby_value.specs.Prelude.{default_value, has_kind, has_kinds}
 use Rattle.ruby_symbols.specs.declared.machine.TableSort.{TableSort}
 use Rattle.ruby_symbols.specs.declared.types.FieldSymbol.{FieldSymbol}
 use Rattle.slicc_ast.specs.declared.tree.declaration.PairValue.{PairValue}
@@ -20,15 +18,9 @@ use Rattle.slicc_ast.specs.declared.tree.item.Tree.{Tree}
 use Rattle.slicc_ast.specs.declared.tree.machine.Literal.{Literal}
 use Rattle.slicc_ast.specs.declared.tree.machine.Literal.TheVariants.{Number, Minus, Quoted, True, False}
 use Rattle.slicc_ast.specs.declared.tree.machine.Machine.{Machine}
-use Rattle.slicc_plan.specs.Attributes.{Attribute, first_attribute}
-use Rattle.slicc_plan.specs.Declarations.{Declaration, machine, enumeration, structure, states, parameter, object, out_port, in_port, action, function, symbol, state, member as member_declaration, formal, local, within, machine_declarations}
-use Rattle.slicc_plan.specs.FieldTypes.{FieldIn, field_type}
-use Rattle.slicc_plan.specs.InitialFields.{field_kind, initial_of, initial_value, structure_fields, value_by, value_written}
-use Rattle.slicc_plan.specs.MachineValues.{literal_value, value_in, value_of_kind, value_of_type, values_of, written_value}
-use Rattle.slicc_plan.specs.Setups.{parameter_table, range_values, set_value, setup_in, table_of_lines, table_size, tables_from, values_from}
-use Rattle.slicc_plan.specs.Tables.{line_structure, tables_of}
-use Rattle.slicc_plan.specs.TypeNumbers.{plain_kind}
-use Rattle.slicc_plan.specs.Types.{KnownType, is_built_in, type_in}
+use Rattle.slicc_plan.specs.Prelude.{Attribute, first_attribute, Declaration, machine, states, parameter, object, action, function, symbol, state, member as member_declaration, formal, local, within, machine_declarations, FieldIn, field_type, field_kind, initial_of, initial_value, structure_fields, value_by, value_written, literal_value, value_in, value_of_kind, values_of, written_value, parameter_table, range_values, set_value, setup_in, table_of_lines, table_size, tables_from, values_from, line_structure, tables_of, plain_kind, KnownType, is_built_in, type_in}
+use Rattle.slicc_plan.specs.Declarations.{enumeration, structure, out_port, in_port}
+use Rattle.slicc_plan.specs.MachineValues.{value_of_type}
 use Rattle.slicc_plan.proofs.NoReferences.{all_flat}
 use Rattle.slicc_plan.specs.declared.built_in.BuiltInType.TheVariants.{Cycles}
 

@@ -10,15 +10,10 @@ use Rattle.slicc_ast.specs.declared.tree.machine.Machine.{Machine}
 use Rattle.slicc_ast.specs.declared.tree.name.Name.{Name}
 use Rattle.slicc_ast.specs.declared.tree.span.Span.{Span}
 use Rattle.slicc_plan.specs.declared.built_in.BuiltInType.TheVariants.{Buffer, TbeTable}
-use Rattle.slicc_plan.specs.AllRules.{IsAccepted}
-use Rattle.slicc_plan.specs.Attributes.{attributes, has_attribute}
-use Rattle.slicc_plan.specs.Buffers.{BufferIn, Place, own, to_network, from_network, buffer_in, buffer_of, virtual_network}
-use Rattle.slicc_plan.specs.Declarations.{Declaration, machine, enumeration, structure, states, parameter, object, out_port, in_port, action, function, symbol, state, member, formal, local, within, machine_declarations, machines_of}
-use Rattle.slicc_plan.specs.MessageTypes.{message_type, type_at}
-use Rattle.slicc_plan.specs.Setups.{HasTypeOf, attributes_of, buffer_by, buffer_place, is_ordered, kinds_on, setup_in}
-use Rattle.ruby_value.specs.NetworkOf.{network_of}
-use Rattle.slicc_plan.specs.Types.{KnownType, is_built_in, type_in}
-use Rattle.slicc_plan.specs.Values.{bad_attributes, bad_buffer_attributes, bad_entries, bad_literal, bad_object_attributes, bad_values_of, is_either, is_number_within}
+use Rattle.slicc_plan.specs.Prelude.{IsAccepted, attributes, has_attribute, BufferIn, Place, own, to_network, from_network, buffer_in, buffer_of, virtual_network, Declaration, machine, states, parameter, object, action, function, symbol, state, member, formal, local, within, machine_declarations, machines_of, type_at, HasTypeOf, attributes_of, buffer_by, buffer_place, is_ordered, kinds_on, setup_in, KnownType, is_built_in, type_in, bad_attributes, bad_buffer_attributes, bad_entries, bad_literal, bad_object_attributes, bad_values_of, is_either, is_number_within}
+use Rattle.slicc_plan.specs.Declarations.{enumeration, structure, out_port, in_port}
+use Rattle.slicc_plan.specs.MessageTypes.{message_type}
+use Rattle.ruby_value.specs.Prelude.{network_of}
 use Rattle.slicc_plan.proofs.Room.{first_within, left_none, right_none, values_kept}
 
 -- one type

@@ -9,10 +9,8 @@ use Rattle.slicc_ast.specs.declared.tree.declaration.Structure.{Structure}
 use Rattle.slicc_ast.specs.declared.tree.declaration.Pairs.{Pairs}
 use Rattle.slicc_ast.specs.declared.tree.item.Tree.{Tree}
 use Rattle.slicc_ast.specs.declared.tree.machine.Machine.{Machine}
-use Rattle.slicc_plan.specs.Buffers.{BufferIn, buffer_in, buffers_of, listed}
-use Rattle.slicc_plan.specs.Declarations.{Declaration, machine_declarations}
-use Rattle.slicc_plan.specs.Setups.{attributes_of, buffer_by, cache_size, is_parameters, parameter_table, setup_in, table_of_lines, table_size, tables_from, tbe_size}
-use Rattle.slicc_plan.specs.Tables.{line_structure, tables_of}
+use Rattle.slicc_plan.specs.Buffers.{listed}
+use Rattle.slicc_plan.specs.Prelude.{BufferIn, buffer_in, buffers_of, Declaration, machine_declarations, attributes_of, buffer_by, cache_size, is_parameters, parameter_table, setup_in, table_of_lines, table_size, tables_from, tbe_size, line_structure, tables_of}
 
 tables_as_many : (trees : List Tree) (m : Machine) (sizes : Sizes) (number : ℕ) (ts : List TableSort) → length (tables_from trees m sizes number ts) ≡ length ts
 tables_as_many trees m sizes number [] = refl

@@ -5,11 +5,7 @@ use Rattle.slicc_ast.specs.declared.tree.item.Tree.{Tree}
 use Rattle.slicc_plan.specs.declared.broken.Broken.{Broken}
 use Rattle.slicc_plan.specs.declared.broken.Subject.{Subject}
 use Rattle.slicc_plan.specs.declared.broken.Subject.TheVariants.{Declarations, Bodies, Machines}
-use Rattle.slicc_plan.specs.AllRules.{AreAbout, IsToldOf, of_declarations, of_bodies, of_machines, broken_rules}
-use Rattle.slicc_plan.specs.BrokenBodies.{broken_bodies}
-use Rattle.slicc_plan.specs.BrokenDeclarations.{broken_declarations}
-use Rattle.slicc_plan.specs.BrokenMachines.{broken_machines}
-use Rattle.slicc_plan.specs.Order.{IsFirstBroken, comes_before, is_less, rank_in, rank_of, subject_of}
+use Rattle.slicc_plan.specs.Prelude.{AreAbout, IsToldOf, of_declarations, of_bodies, of_machines, broken_rules, broken_bodies, broken_declarations, broken_machines, IsFirstBroken, comes_before, is_less, rank_in, rank_of, subject_of}
 
 -- what is told first of lists that are put together
 

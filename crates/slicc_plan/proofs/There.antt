@@ -5,8 +5,7 @@ use Rattle.std.proofs.lemmas.List.Elements.{All-head, All-tail}
 use Rattle.std.proofs.lemmas.Option.{slice_get-get_or, slice_get_within}
 use Rattle.slicc_ast.specs.declared.tree.item.Tree.{Tree}
 use Rattle.slicc_ast.specs.declared.tree.machine.Machine.{Machine}
-use Rattle.slicc_plan.specs.Declarations.{Declaration, machine, everywhere, within, global_declarations, machine_declarations, machine_in}
-use Rattle.slicc_plan.specs.TypeNumbers.{made_in, made_with_its_own, scoped_declarations}
+use Rattle.slicc_plan.specs.Prelude.{Declaration, machine, everywhere, within, global_declarations, machine_declarations, machine_in, made_in, made_with_its_own, scoped_declarations}
 
 pub get_left : {X : Type 0} (xs ys : List X) (n : ℕ) → n < length xs → slice_get (xs ++ ys) n ≡ slice_get xs n
 get_left [] ys n lt = absurd (omega arith)

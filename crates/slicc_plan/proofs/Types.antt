@@ -20,14 +20,8 @@ use Rattle.slicc_ast.specs.declared.tree.item.Tree.{Tree}
 use Rattle.slicc_ast.specs.declared.tree.machine.Machine.{Machine}
 use Rattle.slicc_ast.specs.declared.tree.name.Name.{Name}
 use Rattle.slicc_plan.specs.declared.built_in.BuiltInType.{BuiltInType}
-use Rattle.slicc_plan.specs.AllRules.{IsAccepted}
-use Rattle.slicc_plan.specs.Buffers.{is_same_known, is_same_scope}
-use Rattle.slicc_plan.specs.Declarations.{Declaration, enumeration, structure, states, Scope, everywhere, within, is_external, name_of}
-use Rattle.slicc_plan.specs.Limits.{is_counted_structure, is_enumeration}
-use Rattle.slicc_plan.specs.SymbolsOfMachines.{number_of_found}
-use Rattle.slicc_plan.specs.SymbolsOfTypes.{enumeration_symbol, enumeration_symbols, field_symbols, owner, request_symbol, structure_symbol, structure_symbols}
-use Rattle.slicc_plan.specs.TypeNumbers.{ScopedDeclaration, declared_enumerations, declared_number, declared_structures, declares, is_known_as, made_in, no_structure, own_default, scoped_declarations, structure_number}
-use Rattle.slicc_plan.specs.Types.{KnownType, enumerated, structured, declared_type, external_type, structure_type, table_named}
+use Rattle.slicc_plan.specs.Prelude.{IsAccepted, is_same_known, is_same_scope, Declaration, states, Scope, everywhere, within, is_external, name_of, is_counted_structure, is_enumeration, number_of_found, enumeration_symbol, enumeration_symbols, field_symbols, owner, request_symbol, structure_symbol, structure_symbols, ScopedDeclaration, declared_enumerations, declared_number, declared_structures, declares, is_known_as, made_in, no_structure, own_default, scoped_declarations, structure_number, KnownType, enumerated, structured, declared_type, external_type, structure_type, table_named}
+use Rattle.slicc_plan.specs.Declarations.{enumeration, structure}
 use Rattle.slicc_plan.proofs.Names.{ApartIn, scoped_apart}
 use Rattle.slicc_plan.proofs.There.{There, all_there, get_left, there_filtered}
 

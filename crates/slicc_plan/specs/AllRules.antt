@@ -2,8 +2,7 @@
 -- that it breaks. The rules are judged in three phases, and one that is broken in an earlier phase is told: those of
 -- declarations, those of bodies, those of machines. A plan is seen as the trees of the protocol's files in the order of reading.
 use Rattle.std.specs.Prelude.{ℕ, ◌≡◌, ◌++◌, Result, Ok, Err, All, List, [], map}
-use Rattle.slicc_ast.specs.Outline.{Outline, shape_of}
-use Rattle.slicc_ast.specs.Trees.{tree}
+use Rattle.slicc_ast.specs.Prelude.{Outline, shape_of, tree}
 use Rattle.slicc_ast.specs.declared.tree.item.Tree.{Tree}
 use Rattle.slicc_plan.specs.declared.broken.Broken.{Broken}
 use Rattle.slicc_plan.specs.declared.broken.Subject.{Subject}

@@ -3,7 +3,7 @@
 use Rattle.std.specs.Prelude.{ℕ, ◌+◌, ◌*◌, ◌-◌, ◌^◌, ◌&&◌, ◌||◌, ◌==◌, Bool, false, cond, nat_le, nat_lt, Option, None, Some, List, [], ◌∷◌, fold, pos, negsuc, option_and_then}
 use Rattle.std.specs.List.{filter_map, list_all, slice_get}
 use Rattle.std.specs.Str.{bytes_eq}
-use Rattle.slicc_ast.specs.Bytes.{is_between}
+use Rattle.slicc_ast.specs.Prelude.{is_between}
 use Rattle.slicc_ast.specs.declared.tree.span.Span.{Span}
 use Rattle.slicc_ast.specs.declared.tree.declaration.Pairs.{Pairs}
 use Rattle.slicc_ast.specs.declared.tree.declaration.Pair.{Pair}

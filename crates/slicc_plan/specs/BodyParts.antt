@@ -8,11 +8,11 @@ use Rattle.std.specs.Str.{bytes_eq}
 use Rattle.slicc_ast.specs.declared.tree.span.Span.{Span}
 use Rattle.slicc_ast.specs.declared.tree.machine.Machine.{Machine}
 use Rattle.slicc_ast.specs.declared.tree.machine.Decl.{Decl}
-use Rattle.slicc_ast.specs.declared.tree.machine.Decl.TheVariants.{InPort as InPortDecl, Action as ActionDecl, Function as FunctionDecl}
+use Rattle.slicc_ast.specs.declared.tree.machine.Decl.TheVariants.{InPort, Action, Function}
 use Rattle.slicc_ast.specs.declared.tree.declaration.Function.TheVariants.{Plain as PlainFunction, Skipped}
 use Rattle.slicc_ast.specs.declared.tree.expression.Suffix.{Suffix, Field, Method', Index}
 use Rattle.slicc_ast.specs.declared.tree.expression.Expr.{Expr, Variable, Call', Row_of-Expr, end_of-Expr, more_of-Expr, Row_of-Operand, end_of-Operand, more_of-Operand, Row_of-Suffix, end_of-Suffix, more_of-Suffix}
-use Rattle.slicc_ast.specs.Boxes.{Operation', Not', Negate', Postfix', IsValid', IsInvalid', Cast', Group'}
+use Rattle.slicc_ast.specs.Prelude.{Operation', Not', Negate', Postfix', IsValid', IsInvalid', Cast', Group'}
 use Rattle.slicc_ast.specs.declared.tree.statement.Block.{Block}
 use Rattle.slicc_ast.specs.declared.tree.statement.If.{If, If', Held-If-otherwise, None', Some', Row_of-ElseIf, end_of-ElseIf, more_of-ElseIf}
 use Rattle.slicc_ast.specs.declared.tree.statement.Stmt.{Stmt, Declare, Assign, Evaluate, Return, If as IfStmt, Peek', Enqueue', StallAndWait, CheckAllocate, Assert, Row_of-Stmt, end_of-Stmt, more_of-Stmt}
@@ -188,18 +188,18 @@ pub record Written : Type 0 where
   pub place : Span
 
 abbrev pub function_in : Decl → List Written
-function_in (FunctionDecl (PlainFunction kind called formals attributes (Some body) span)) =
+function_in (Function (PlainFunction kind called formals attributes (Some body) span)) =
     record { name = called.text; block = body; place = span } ∷ []
-function_in (FunctionDecl (PlainFunction kind called formals attributes None span)) = []
-function_in (FunctionDecl (Skipped s)) = []
+function_in (Function (PlainFunction kind called formals attributes None span)) = []
+function_in (Function (Skipped s)) = []
 function_in _ = []
 
 abbrev pub action_in : Decl → List Written
-action_in (ActionDecl a) = record { name = a.name.text; block = a.body; place = a.span } ∷ []
+action_in (Action a) = record { name = a.name.text; block = a.body; place = a.span } ∷ []
 action_in _ = []
 
 abbrev pub port_in : Decl → List Written
-port_in (InPortDecl p) = record { name = p.name.text; block = p.body; place = p.span } ∷ []
+port_in (InPort p) = record { name = p.name.text; block = p.body; place = p.span } ∷ []
 port_in _ = []
 
 -- with one more, of those of one name the first

@@ -14,7 +14,7 @@ use Rattle.slicc_ast.specs.declared.tree.machine.OutPort.{OutPort}
 use Rattle.slicc_ast.specs.declared.tree.machine.InPort.{InPort}
 use Rattle.slicc_ast.specs.declared.tree.machine.Action.{Action}
 use Rattle.slicc_ast.specs.declared.tree.machine.Decl.{Decl}
-use Rattle.slicc_ast.specs.declared.tree.machine.Decl.TheVariants.{States as StatesDecl, Enumeration as EnumerationDecl, Structure as StructureDecl, OutPort as OutPortDecl, InPort as InPortDecl, Action as ActionDecl, Transition as TransitionDecl, Function as FunctionDecl, Object as ObjectDecl}
+use Rattle.slicc_ast.specs.declared.tree.machine.Decl.TheVariants.{States as StatesDecl, Enumeration as EnumerationDecl, Structure as StructureDecl, OutPort as OutPortDecl, InPort as InPortDecl, Action as ActionDecl, Transition, Function as FunctionDecl, Object as ObjectDecl}
 use Rattle.slicc_ast.specs.declared.tree.declaration.Enumeration.{Enumeration}
 use Rattle.slicc_ast.specs.declared.tree.declaration.Symbol.{Symbol}
 use Rattle.slicc_ast.specs.declared.tree.declaration.States.{States}
@@ -133,7 +133,7 @@ named_declarations (StructureDecl s) = structure s ∷ []
 named_declarations (OutPortDecl p) = out_port p ∷ []
 named_declarations (InPortDecl p) = in_port p ∷ []
 named_declarations (ActionDecl a) = action a ∷ []
-named_declarations (TransitionDecl t) = []
+named_declarations (Transition t) = []
 named_declarations (FunctionDecl f) = function f ∷ []
 named_declarations (ObjectDecl o) = object o ∷ []
 

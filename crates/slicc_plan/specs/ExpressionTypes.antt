@@ -15,8 +15,8 @@ use Rattle.slicc_ast.specs.declared.tree.declaration.Member.TheVariants.{Field a
 use Rattle.slicc_ast.specs.declared.tree.expression.Operator.{Operator}
 use Rattle.slicc_ast.specs.declared.tree.expression.Operator.TheVariants.{Or, And, Equal, Unequal, Plus, Minus, Times}
 use Rattle.slicc_ast.specs.declared.tree.expression.Suffix.{Suffix, Field, Method', Index}
-use Rattle.slicc_ast.specs.declared.tree.expression.Expr.{Expr, Number, True, False, Nothing, Variable, Member as MemberOf, Call', New, Row_of-Expr, end_of-Expr, more_of-Expr, Row_of-Operand, end_of-Operand, more_of-Operand, Row_of-Suffix, end_of-Suffix, more_of-Suffix}
-use Rattle.slicc_ast.specs.Boxes.{Operation', Not', Negate', Postfix', IsValid', IsInvalid', Cast', Group'}
+use Rattle.slicc_ast.specs.declared.tree.expression.Expr.{Expr, Number, True, False, Nothing, Variable, Member, Call', New, Row_of-Expr, end_of-Expr, more_of-Expr, Row_of-Operand, end_of-Operand, more_of-Operand, Row_of-Suffix, end_of-Suffix, more_of-Suffix}
+use Rattle.slicc_ast.specs.Prelude.{Operation', Not', Negate', Postfix', IsValid', IsInvalid', Cast', Group'}
 use Rattle.slicc_plan.specs.declared.broken.Broken.{Broken}
 use Rattle.slicc_plan.specs.declared.broken.Rule.TheVariants.{NotThere, NotAllowedHere, WrongType}
 use Rattle.slicc_plan.specs.declared.built_in.BuiltInType.{BuiltInType}
@@ -38,7 +38,7 @@ span_of (True span) = span
 span_of (False span) = span
 span_of (Nothing span) = span
 span_of (Variable n) = n.span
-span_of (MemberOf owner called span) = span
+span_of (Member owner called span) = span
 span_of (Call' called shape row arguments span) = span
 span_of (New made span) = span
 span_of (IsValid' inner span) = span
@@ -185,7 +185,7 @@ abbrev mutual
   typed env (False span) = plain (value (built_in Boolean)) []
   typed env (Nothing span) = plain no_line []
   typed env (Variable n) = variable_type env n
-  typed env (MemberOf owner called span) = member_type env owner called
+  typed env (Member owner called span) = member_type env owner called
   typed env (Call' called shape row arguments span) = named_call env span called (arguments_typed env row)
   typed env (New made span) = plain (new_line made) (told NotAllowedHere span ∷ [])
   typed env (IsValid' inner span) = from_operand env any_line Boolean (given_at (span_of inner) (typed env inner))

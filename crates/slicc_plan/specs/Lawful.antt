@@ -10,7 +10,7 @@ use Rattle.ruby_symbols.specs.declared.machine.TableSort.TheVariants as sort
 use Rattle.ruby_symbols.specs.declared.machine.TableSymbol.{TableSymbol}
 use Rattle.slicc_ast.specs.declared.tree.item.Tree.{Tree}
 use Rattle.slicc_plan.specs.MessageTypes.{network_type}
-use Rattle.ruby_value.specs.NetworkOf.{network_of}
+use Rattle.ruby_value.specs.Prelude.{network_of}
 use Rattle.slicc_plan.specs.TypeNumbers.{structure_number}
 
 -- the lists are within the limits of a protocol, and so within numbers of 16 bits

@@ -47,3 +47,4 @@ pub mod UnknownTypes
 pub mod Values
 pub mod Lawful
 pub mod Numbering
+pub mod Prelude

@@ -14,7 +14,7 @@ use Rattle.slicc_plan.specs.declared.broken.Rule.TheVariants.{WrongType}
 use Rattle.slicc_plan.specs.declared.built_in.BuiltInType.{BuiltInType}
 use Rattle.slicc_plan.specs.declared.built_in.BuiltInType.TheVariants.{Address, NetDest, Void}
 use Rattle.slicc_plan.specs.Buffers.{is_same_known, listed}
-use Rattle.slicc_plan.specs.BuiltIn.{Nature, number, boolean, address, enumeration, other_value, structure as structure_nature, table as table_nature, nothing as nothing_nature, is_table_nature, nature_of}
+use Rattle.slicc_plan.specs.BuiltIn.{Nature, number, boolean, address, enumeration, other_value, structure, table as table_nature, nothing as nothing_nature, is_table_nature, nature_of}
 use Rattle.slicc_plan.specs.Declarations.{within}
 use Rattle.slicc_plan.specs.FieldTypes.{may_be_field}
 use Rattle.slicc_plan.specs.Machines.{directory_structure, entry_structure, tbe_structure}
@@ -65,7 +65,7 @@ is_structure_nature boolean = false
 is_structure_nature address = false
 is_structure_nature enumeration = false
 is_structure_nature other_value = false
-is_structure_nature structure_nature = true
+is_structure_nature structure = true
 is_structure_nature table_nature = false
 is_structure_nature nothing_nature = false
 
@@ -150,7 +150,7 @@ is_number boolean = false
 is_number address = false
 is_number enumeration = false
 is_number other_value = false
-is_number structure_nature = false
+is_number structure = false
 is_number table_nature = false
 is_number nothing_nature = false
 

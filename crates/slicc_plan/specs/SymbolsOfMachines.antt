@@ -13,7 +13,7 @@ use Rattle.ruby_symbols.specs.declared.machine.PortSymbol.{PortSymbol}
 use Rattle.ruby_symbols.specs.declared.machine.TableSort.{TableSort}
 use Rattle.ruby_symbols.specs.declared.machine.TableSymbol.{TableSymbol}
 use Rattle.ruby_symbols.specs.declared.machine.TransitionSymbol.{TransitionSymbol}
-use Rattle.ruby_symbols.specs.Names.{action_among, buffer_among, function_among}
+use Rattle.ruby_symbols.specs.Prelude.{action_among, buffer_among, function_among}
 use Rattle.slicc_ast.specs.declared.tree.declaration.Formal.{Formal}
 use Rattle.slicc_ast.specs.declared.tree.declaration.Function.{Function}
 use Rattle.slicc_ast.specs.declared.tree.declaration.Function.TheVariants.{Plain, Skipped}
@@ -22,7 +22,7 @@ use Rattle.slicc_ast.specs.declared.tree.declaration.State.{State}
 use Rattle.slicc_ast.specs.declared.tree.declaration.Structure.{Structure}
 use Rattle.slicc_ast.specs.declared.tree.item.Tree.{Tree}
 use Rattle.slicc_ast.specs.declared.tree.machine.Decl.{Decl}
-use Rattle.slicc_ast.specs.declared.tree.machine.Decl.TheVariants.{InPort as InPortDecl, OutPort as OutPortDecl, Action as ActionDecl, Function as FunctionDecl}
+use Rattle.slicc_ast.specs.declared.tree.machine.Decl.TheVariants.{InPort, OutPort, Action, Function as FunctionDecl}
 use Rattle.slicc_ast.specs.declared.tree.machine.Machine.{Machine}
 use Rattle.slicc_ast.specs.declared.tree.name.Name.{Name}
 use Rattle.slicc_ast.specs.declared.tree.name.TypeName.{TypeName}
@@ -109,15 +109,15 @@ port_on_buffer text number (Some buffer) = record { name = text; buffer = buffer
 
 -- a port is on the buffer of that name, of these of its machine
 abbrev pub in_port_symbol : List BufferSymbol → ℕ → Decl → List PortSymbol
-in_port_symbol buffers number (InPortDecl p) = port_on_buffer p.name.text number (buffer_among buffers p.buffer.text)
+in_port_symbol buffers number (InPort p) = port_on_buffer p.name.text number (buffer_among buffers p.buffer.text)
 in_port_symbol buffers number _ = []
 
 abbrev pub out_port_symbol : List BufferSymbol → ℕ → Decl → List PortSymbol
-out_port_symbol buffers number (OutPortDecl p) = port_on_buffer p.name.text number (buffer_among buffers p.buffer.text)
+out_port_symbol buffers number (OutPort p) = port_on_buffer p.name.text number (buffer_among buffers p.buffer.text)
 out_port_symbol buffers number _ = []
 
 abbrev pub action_symbol : ℕ → Decl → List ActionSymbol
-action_symbol number (ActionDecl a) = record { name = a.name.text; declaration = number } ∷ []
+action_symbol number (Action a) = record { name = a.name.text; declaration = number } ∷ []
 action_symbol number _ = []
 
 -- the kind of the values of the type of this name, where it has values

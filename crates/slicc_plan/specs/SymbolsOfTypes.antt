@@ -3,7 +3,7 @@
 use Rattle.std.specs.Prelude.{ℕ, ◌++◌, Option, None, Some, List, [], ◌∷◌, flat_map, map, position, codes}
 use Rattle.std.specs.Str.{bytes_eq}
 use Rattle.ruby_value.specs.declared.kind.Kind.{Kind}
-use Rattle.ruby_value.specs.DefaultValue.{default_value}
+use Rattle.ruby_value.specs.Prelude.{default_value}
 use Rattle.ruby_symbols.specs.declared.types.EnumerationSymbol.{EnumerationSymbol}
 use Rattle.ruby_symbols.specs.declared.types.FieldSymbol.{FieldSymbol}
 use Rattle.ruby_symbols.specs.declared.types.StructureSymbol.{StructureSymbol}

@@ -16,7 +16,7 @@ use Rattle.slicc_plan.specs.declared.broken.Rule.TheVariants.{BadValue}
 use Rattle.slicc_plan.specs.declared.built_in.BuiltInType.{BuiltInType}
 use Rattle.slicc_plan.specs.declared.built_in.BuiltInType.TheVariants.{TbeTable, Buffer}
 use Rattle.slicc_plan.specs.Attributes.{Attribute, attributes, is_within, is_word, number_value}
-use Rattle.slicc_plan.specs.BuiltIn.{Nature, number, boolean, address, enumeration as enumeration_nature, other_value, structure as structure_nature, table, nothing, members_of, nature_of}
+use Rattle.slicc_plan.specs.BuiltIn.{Nature, number, boolean, address, enumeration as enumeration_nature, other_value, structure, table, nothing, members_of, nature_of}
 use Rattle.slicc_plan.specs.Declarations.{Declaration, enumeration, states, parameter, object, Scope, everywhere, within, declared_in, machine_names, wide_scopes}
 use Rattle.slicc_plan.specs.FieldTypes.{FieldIn, all_fields, field_type}
 use Rattle.slicc_plan.specs.Types.{KnownType, built_in, enumerated, structured, declared_type, is_built_in, nature_in, type_in}
@@ -101,7 +101,7 @@ is_built_in_default machines b text address value = is_some (number_value value)
 is_built_in_default machines b text boolean value = is_either (codes "true") (codes "false") value
 is_built_in_default machines b text enumeration_nature value = is_member_word everywhere text (members_of machines b) value
 is_built_in_default machines b text other_value value = false
-is_built_in_default machines b text structure_nature value = false
+is_built_in_default machines b text structure value = false
 is_built_in_default machines b text table value = false
 is_built_in_default machines b text nothing value = false
 

@@ -1,6 +1,6 @@
 ghost use Rattle.std.specs.Prelude.{◌≡◌, [], ◌∷◌};
 ghost use Rattle.slicc_plan.specs.BrokenDeclarations.{refusal_of};
-ghost use Rattle.slicc_plan.specs.Order.{IsFirstOf, comes_before, earlier_of, earlier_of_both, first_after, is_less, number_of, rank_of, second_rank as second_rank_of, subject_of};
+ghost use Rattle.slicc_plan.specs.Order.{IsFirstOf, comes_before, earlier_of, earlier_of_both, first_after, is_less, number_of, rank_of, second_rank, subject_of};
 
 use crate::refusal::Refusal;
 use slicc_ast::tree::Span;
@@ -164,7 +164,7 @@ impl Broken {
 
 // What the order looks at in the second place, where there is one.
 fn second_rank(other: Option<Span>) -> [u32; 3]
-    ensures { result ≡ second_rank_of other }
+    ensures { result ≡ second_rank other }
 {
     match other {
         None => [0, 0, 0],

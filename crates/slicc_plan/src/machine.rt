@@ -1,8 +1,7 @@
 //! The machines of a protocol by their numbers.
 ghost use Rattle.std.specs.Prelude.{◌≡◌, ◌+◌, Some, length, slice_get, IfErr, IfOk};
 ghost use Rattle.std.specs.Option.{option_copied};
-ghost use Rattle.slicc_plan.specs.Declarations.{machines_of};
-ghost use Rattle.slicc_plan.specs.MachineAmong.{machines_among};
+ghost use Rattle.slicc_plan.specs.Prelude.{machines_of, machines_among};
 
 use slicc_ast::tree::{Item, Machine, Tree};
 

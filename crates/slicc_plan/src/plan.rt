@@ -37,7 +37,7 @@ impl Drop for Plan {
 
 impl Model for Plan {
     ghost use Rattle.std.specs.Prelude.{List};
-    ghost use Rattle.slicc_ast.specs.declared.tree.item.Tree.{Tree as TreeRecord};
+    ghost use Rattle.slicc_ast.specs.declared.tree.item.Tree.{Tree};
     ghost use Rattle.std.specs.Prelude.{◌≡◌};
     ghost use Rattle.slicc_plan.specs.AllRules.{IsAccepted};
     ghost use Rattle.slicc_plan.specs.Counts.{counts_of};
@@ -45,7 +45,7 @@ impl Model for Plan {
     ghost use Rattle.std.specs.Coded.{coded_list};
     ghost use Rattle.slicc_ast.specs.contracts.tree.item.Tree as tree;
 
-    ghost Value = { List TreeRecord };
+    ghost Value = { List Tree };
 
     ghost coded = { coded_list tree.the_row.coded };
 

@@ -8,16 +8,12 @@ use Rattle.slicc_ast.specs.declared.tree.token.TokenKind.{TokenKind}
 use Rattle.slicc_ast.specs.declared.tree.token.TokenKind.TheVariants.{Name, Number, Quoted, Word, Sign, End}
 use Rattle.slicc_ast.specs.declared.tree.token.Sign.{Sign as SignKind}
 use Rattle.slicc_ast.specs.declared.tree.token.Sign.TheVariants.{OpenBrace, CloseBrace, OpenParenthesis, CloseParenthesis, OpenBracket, CloseBracket, Semicolon, Colon, Comma, Dot, Equals, Assign, Equal, Unequal, Less, Greater, LessOrEqual, GreaterOrEqual, Plus, Minus, Star, Not, And, Or}
-use Rattle.slicc_ast.specs.Names.{sign, balanced, balanced_list, balanced_part, balanced_row, is_loose}
-use Rattle.slicc_ast.specs.Outline.{none, Parts}
-use Rattle.slicc_ast.specs.Kinds.{has, is_ahead}
-use Rattle.slicc_ast.specs.Ahead.{first_of_form}
-use Rattle.slicc_ast.specs.Form.{Form}
-use Rattle.slicc_ast.specs.Parts.{Part as GrammarPart, of, unbracketed}
-use Rattle.slicc_ast.specs.TokenKinds.{kind_of, sign_kind}
+use Rattle.slicc_ast.specs.Names.{sign, balanced, balanced_part}
+use Rattle.slicc_ast.specs.Prelude.{balanced_list, balanced_row, is_loose, none, Parts, has, is_ahead, first_of_form, Form, of, unbracketed, kind_of, sign_kind}
+use Rattle.slicc_ast.specs.Parts.{Part as GrammarPart}
 use Rattle.slicc_lex.specs.declared.token.Token.{Token as TokenOf}
-use Rattle.slicc_lex.specs.Syntax.{symbols}
-use Rattle.slicc_reading.specs.Reading.{AreRead}
+use Rattle.slicc_lex.specs.Prelude.{symbols}
+use Rattle.slicc_reading.specs.Prelude.{AreRead}
 use Rattle.slicc_reading.proofs.FirstTokens.{later_kind}
 use Rattle.slicc_reading.proofs.Parts.{allow, as_parts, by_alternative, token_read}
 use Rattle.slicc_reading.proofs.Repeats.{each}

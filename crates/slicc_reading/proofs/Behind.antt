@@ -3,18 +3,13 @@ use Rattle.std.proofs.Common.{◌≡◌, ℕ, ◌≤◌, Bool, IsTrue, List, [],
 use Rattle.slicc_ast.specs.declared.tree.declaration.Pair.{Pair}
 use Rattle.slicc_ast.specs.declared.tree.span.Span.{Span}
 use Rattle.slicc_ast.specs.declared.tree.token.Sign.TheVariants.{Comma}
-use Rattle.slicc_ast.specs.Declarations.{pair_list}
+use Rattle.slicc_ast.specs.Prelude.{pair_list, Outline, node, none, Parts, part, provided, ◌▸◌, comma, table}
 use Rattle.slicc_ast.specs.Names.{sign}
-use Rattle.slicc_ast.specs.Outline.{Outline, node, none, Parts, part, provided}
 use Rattle.slicc_ast.proofs.Steps.{passes_both}
-use Rattle.slicc_ast.specs.Parts.{Part, ◌▸◌, comma}
-use Rattle.slicc_ast.specs.Table.{table}
+use Rattle.slicc_ast.specs.Parts.{Part}
 use Rattle.slicc_lex.specs.declared.token.Token.{Token}
-use Rattle.slicc_lex.specs.Syntax.{symbols}
-use Rattle.slicc_reading.specs.Reading.{AreRead, Covers, IsNode, IsRead}
-use Rattle.slicc_reading.specs.Reading.AreParts.{allowed, inside, nothing}
-use Rattle.slicc_reading.specs.Reading.IsNode.{spelled}
-use Rattle.slicc_reading.specs.Reading.{IsSpelledBefore}
+use Rattle.slicc_lex.specs.Prelude.{symbols}
+use Rattle.slicc_reading.specs.Prelude.{AreRead, Covers, IsNode, IsRead, allowed, inside, nothing, spelled, IsSpelledBefore}
 
 shorter : (left between tokens : List Token) → length left ≤ length between → length between ≤ length tokens → length left ≤ length tokens
 shorter left between tokens a b = omega arith

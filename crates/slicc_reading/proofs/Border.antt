@@ -2,21 +2,12 @@
 use Rattle.std.proofs.Common.{◌≡◌, ℕ, ◌+◌, ◌-◌, ◌<◌, ◌≤◌, true, List, [], ◌∷◌, ◌++◌, length, drop, refl, sym, subst, ap, ◌∙◌, arith, length-append}
 use Rattle.std.proofs.lemmas.List.{drop-append-le, length-drop}
 use Rattle.slicc_ast.specs.declared.tree.token.TokenKind.TheVariants.{End}
-use Rattle.slicc_ast.specs.Outline.{Outline}
-use Rattle.slicc_ast.specs.Faults.{IsFirstFault, Stop}
-use Rattle.slicc_ast.specs.Faults.Stop.{Passed, Bad, Deep, Short}
-use Rattle.slicc_ast.specs.Faults.IsStop.{one_too_deep, opener_too_deep, not_viable, too_short}
-use Rattle.slicc_ast.specs.Form.{Form}
-use Rattle.slicc_ast.specs.Parts.{of}
-use Rattle.slicc_ast.specs.Written.{written}
+use Rattle.slicc_ast.specs.Prelude.{Outline, IsFirstFault, Stop, Passed, Bad, Deep, Short, one_too_deep, opener_too_deep, not_viable, too_short, Form, of, written}
 use Rattle.slicc_ast.proofs.Readers.{passed, failed}
 use Rattle.slicc_lex.specs.declared.token.Token.{Token}
-use Rattle.slicc_lex.specs.Syntax.{symbols, nesting_limit, AreEnded, IsReadAs, IsStoppedAt}
+use Rattle.slicc_lex.specs.Prelude.{symbols, nesting_limit, AreEnded, IsReadAs, IsStoppedAt}
 use Rattle.slicc_reading.specs.declared.fault.Fault.{Fault}
-use Rattle.slicc_reading.specs.Answers.{IsFaultFrom, placed}
-use Rattle.slicc_reading.specs.Reading.{IsRead, Refuses}
-use Rattle.slicc_reading.specs.Reading.IsStopOf.{is_bad, is_deep, is_short}
-use Rattle.slicc_reading.specs.Reading.Refuses.{no_memory, stops}
+use Rattle.slicc_reading.specs.Prelude.{IsFaultFrom, placed, IsRead, Refuses, is_bad, is_deep, is_short, no_memory, stops}
 use Rattle.slicc_reading.proofs.Endless.{is_inner, never_ended}
 use Rattle.slicc_reading.proofs.Refusals.{symbols_length}
 use Rattle.slicc_reading.proofs.Spelled.{node_of, spells_node}

@@ -1,28 +1,16 @@
 -- How optional and repeated parts and nestings are read.
 use Rattle.std.proofs.Common.{◌≡◌, ℕ, zero, suc, ◌-◌, ◌≤◌, true, false, List, [], ◌∷◌, length, refl, sym, subst, arith}
-use Rattle.slicc_ast.specs.Outline.{Outline, Parts}
-use Rattle.slicc_ast.specs.Grammar.{Row, first_of}
-use Rattle.slicc_ast.specs.Grammar.Row.{done, maybe, many, nested}
-use Rattle.slicc_ast.specs.Kinds.{has, is_ahead}
-use Rattle.slicc_ast.specs.Reader.{Fails, Passes}
+use Rattle.slicc_ast.specs.Prelude.{Outline, Parts, Row, first_of, done, maybe, many, nested, has, is_ahead, Fails, Passes, Form, ◌▸◌, table, kind_of, next, sign_kind}
 use Rattle.slicc_ast.proofs.Steps.{passes_both, passes_present, passes_absent, passes_nested, fails_second, fails_present, fails_nested}
-use Rattle.slicc_ast.specs.Form.{Form}
-use Rattle.slicc_ast.specs.Parts.{Part, ◌▸◌}
-use Rattle.slicc_ast.specs.Table.{table}
-use Rattle.slicc_ast.specs.TokenKinds.{kind_of}
+use Rattle.slicc_ast.specs.Parts.{Part}
 use Rattle.slicc_lex.specs.declared.token.Token.{Token}
-use Rattle.slicc_lex.specs.Syntax.{symbols}
+use Rattle.slicc_lex.specs.Prelude.{symbols}
 use Rattle.slicc_reading.specs.declared.fault.Fault.{Fault}
-use Rattle.slicc_reading.specs.Reading.{IsNode, IsRead, AreRead, Refuses}
-use Rattle.slicc_reading.specs.Reading.AreParts.{one}
-use Rattle.slicc_reading.specs.Reading.Refuses.{no_memory, stops}
+use Rattle.slicc_reading.specs.Prelude.{IsNode, IsRead, AreRead, Refuses, one, no_memory, stops, IsOpened, Leads}
 use Rattle.slicc_ast.specs.declared.tree.token.Sign.{Sign}
 use Rattle.slicc_ast.specs.declared.tree.token.Sign.TheVariants.{OpenBrace, CloseBrace, OpenParenthesis, CloseParenthesis, OpenBracket, CloseBracket, Semicolon, Colon, Comma, Dot, Equals, Assign, Equal, Unequal, Less, Greater, LessOrEqual, GreaterOrEqual, Plus, Minus, Star, Not, And, Or}
 use Rattle.slicc_ast.specs.Names.{sign}
-use Rattle.slicc_ast.specs.Grammar.Rows.{next}
 use Rattle.slicc_ast.specs.Reader.Stops.{on, again, enough}
-use Rattle.slicc_ast.specs.TokenKinds.{sign_kind}
-use Rattle.slicc_reading.specs.Reading.{IsOpened, Leads}
 
 pub same_kind : (s : Sign) → has (sign_kind s ∷ []) (sign_kind s) ≡ true
 same_kind OpenBrace = refl

@@ -1,7 +1,7 @@
 -- What a first token is, where it is one of some kinds or of others and not of the former, or is none of both.
 use Rattle.std.proofs.Common.{◌≡◌, ℕ, ◌||◌, ◌==◌, true, false, Bool, List, [], ◌∷◌, ◌++◌, refl, sym}
 use Rattle.std.proofs.lemmas.Bool.{false≢true}
-use Rattle.slicc_ast.specs.Kinds.{has, is_ahead}
+use Rattle.slicc_ast.specs.Prelude.{has, is_ahead}
 
 or_later : (a b c : Bool) → (a || b) ≡ true → (a || c) ≡ false → (b ≡ true) × (c ≡ false)
 or_later true b c some absent_there = absurd (false≢true (sym absent_there))

@@ -5,13 +5,11 @@ use Rattle.slicc_ast.specs.declared.tree.token.Sign.{Sign}
 use Rattle.slicc_ast.specs.declared.tree.token.Sign.TheVariants.{OpenParenthesis}
 use Rattle.slicc_ast.specs.declared.tree.token.Word.{Word}
 use Rattle.slicc_ast.specs.Names.{sign, word as word_parts}
-use Rattle.slicc_ast.specs.Outline.{Parts}
-use Rattle.slicc_ast.specs.Grammar.Row.{done, nested}
-use Rattle.slicc_ast.specs.Parts.{Part, ◌▸◌, word}
-use Rattle.slicc_ast.specs.TokenKinds.{sign_kind}
+use Rattle.slicc_ast.specs.Prelude.{Parts, done, nested, ◌▸◌, sign_kind}
+use Rattle.slicc_ast.specs.Parts.{Part, word}
 use Rattle.slicc_lex.specs.declared.token.Token.{Token}
 use Rattle.slicc_reading.specs.declared.fault.Fault.{Fault}
-use Rattle.slicc_reading.specs.Reading.{AreRead, IsCalled, IsOpened, Refuses}
+use Rattle.slicc_reading.specs.Prelude.{AreRead, IsCalled, IsOpened, Refuses}
 use Rattle.slicc_reading.proofs.Choices.{fault_in_nesting, in_nesting}
 use Rattle.slicc_reading.proofs.Parts.{◌then◌, behind}
 

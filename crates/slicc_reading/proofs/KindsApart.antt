@@ -11,8 +11,7 @@ use Rattle.slicc_ast.specs.declared.tree.token.Sign.{Sign}
 use Rattle.slicc_ast.specs.declared.tree.token.Sign.TheVariants.{Or}
 use Rattle.slicc_ast.specs.declared.tree.token.Word.{Word}
 use Rattle.slicc_ast.specs.declared.tree.token.Word.TheVariants.{While}
-use Rattle.slicc_ast.specs.Kinds.{has}
-use Rattle.slicc_ast.specs.TokenKinds.{functional_name, kind_of, machine_type, name_kind, other_name, sign_kind, word_kind}
+use Rattle.slicc_ast.specs.Prelude.{has, functional_name, kind_of, machine_type, name_kind, other_name, sign_kind, word_kind}
 
 same_word : (a b : Word) → word_kind a ≡ word_kind b → a ≡ b
 same_word a b is = search rules

@@ -7,22 +7,17 @@ use Rattle.slicc_ast.specs.declared.tree.declaration.PairValue.TheVariants.{Quot
 use Rattle.slicc_ast.specs.declared.tree.span.Span.{Span}
 use Rattle.slicc_ast.specs.declared.tree.token.Sign.TheVariants.{Comma}
 use Rattle.slicc_ast.specs.declared.tree.token.TokenKind.TheVariants.{Name as Named, Number, Quoted}
-use Rattle.slicc_ast.specs.Declarations.{pair as pair_outline, pair_list, pair_value}
+use Rattle.slicc_ast.specs.Declarations.{pair as pair_outline}
+use Rattle.slicc_ast.specs.Prelude.{pair_list, pair_value, node, Parts, none, part, done, has, is_ahead, ◌▸◌, comma, names_of, of, kind_of, name_kind, number, quoted, sign_kind}
 use Rattle.slicc_ast.specs.Names.{sign}
-use Rattle.slicc_ast.specs.Outline.{node, Parts, none, part}
-use Rattle.slicc_ast.specs.Grammar.Row.{done, token as token_row}
-use Rattle.slicc_ast.specs.Kinds.{has, is_ahead}
+use Rattle.slicc_ast.specs.Grammar.Row.{token}
 use Rattle.slicc_ast.proofs.Leading.{name_is_one}
 use Rattle.slicc_ast.specs.Form.Form.{pair}
-use Rattle.slicc_ast.specs.Parts.{Part, ◌▸◌, comma, names_of, of, pairs}
-use Rattle.slicc_ast.specs.TokenKinds.{kind_of, name_kind, number, quoted, sign_kind}
+use Rattle.slicc_ast.specs.Parts.{Part, pairs}
 use Rattle.slicc_lex.specs.declared.token.Token.{Token}
-use Rattle.slicc_lex.specs.Syntax.{symbols}
+use Rattle.slicc_lex.specs.Prelude.{symbols}
 use Rattle.slicc_reading.specs.declared.fault.Fault.{Fault}
-use Rattle.slicc_reading.specs.Attributes.{IsValue, value_kinds}
-use Rattle.slicc_reading.specs.Reading.{Covers, AreParts, IsRead, AreRead, Leads, Refuses}
-use Rattle.slicc_reading.specs.Reading.IsNode.{spelled}
-use Rattle.slicc_reading.specs.Reading.AreParts.{nothing, inside}
+use Rattle.slicc_reading.specs.Prelude.{IsValue, value_kinds, Covers, AreParts, IsRead, AreRead, Leads, Refuses, spelled, nothing, inside}
 use Rattle.slicc_reading.proofs.Parts.{token_read}
 use Rattle.slicc_reading.proofs.Choices.{leads_here, once_more, fault_in_more, no_more, all_of}
 use Rattle.slicc_reading.proofs.Spans.{token_covers}
@@ -38,7 +33,7 @@ name_value text = wide (quoted == name_kind text) (number == name_kind text) (ha
 has_kind : (kinds : List ℕ) (t : Token) (kind : _) → t.kind ≡ kind → has kinds (kind_of kind) ≡ true → has kinds (kind_of t.kind) ≡ true
 has_kind kinds t kind is has_it = subst (λ k. has kinds (kind_of k) ≡ true) (sym is) has_it
 
-pub value_read : (room : ℕ) (v : PairValue) (t : Token) (tokens left : List Token) → tokens ≡ t ∷ left → IsValue t v → AreRead room (token_row value_kinds) (pair_value v) tokens left
+pub value_read : (room : ℕ) (v : PairValue) (t : Token) (tokens left : List Token) → tokens ≡ t ∷ left → IsValue t v → AreRead room (token value_kinds) (pair_value v) tokens left
 value_read room (QuotedValue text) t tokens left is same = token_read room value_kinds (Quoted text) t tokens left is (has_kind value_kinds t (Quoted text) same refl) same
 value_read room (NumberValue n) t tokens left is same = token_read room value_kinds (Number n) t tokens left is (has_kind value_kinds t (Number n) same refl) same
 value_read room (NameValue n) t tokens left is same =

@@ -5,26 +5,17 @@ use Rattle.std.specs.List.{slice_get}
 use Rattle.slicc_ast.specs.declared.tree.span.Span.{Span}
 use Rattle.std.proofs.lemmas.Bool.{false≢true}
 use Rattle.slicc_ast.specs.declared.tree.token.TokenKind.{TokenKind}
-use Rattle.slicc_ast.specs.declared.tree.token.TokenKind.TheVariants.{Name as Named, Quoted}
-use Rattle.slicc_ast.specs.Outline.{Outline, node, Parts, none, token, part, provided}
-use Rattle.slicc_ast.specs.Faults.Stop.{Deep}
-use Rattle.slicc_ast.specs.Grammar.{Row, first_of}
-use Rattle.slicc_ast.specs.Grammar.Row.{done, form, nested, token as token_row}
-use Rattle.slicc_ast.specs.Kinds.{has, is_ahead}
-use Rattle.slicc_ast.specs.Reader.{refusal}
+use Rattle.slicc_ast.specs.declared.tree.token.TokenKind.TheVariants.{Name, Quoted}
+use Rattle.slicc_ast.specs.Outline.{token}
+use Rattle.slicc_ast.specs.Prelude.{Outline, node, Parts, none, part, provided, Deep, Row, first_of, done, form, nested, has, is_ahead, refusal, Form, ◌▸◌, names_of, table, kind_of, quoted}
+use Rattle.slicc_ast.specs.Grammar.Row.{token as token_row}
 use Rattle.slicc_ast.proofs.Steps.{passes_both, passes_token, passes_form, fails_first, fails_second, fails_token, fails_form, fails_unformed, fails_unopened, fails_deep}
-use Rattle.slicc_ast.specs.Form.{Form}
-use Rattle.slicc_ast.specs.Parts.{Part, ◌▸◌, names_of}
-use Rattle.slicc_ast.specs.Table.{table}
-use Rattle.slicc_ast.specs.TokenKinds.{kind_of, quoted}
+use Rattle.slicc_ast.specs.Parts.{Part}
 use Rattle.slicc_lex.specs.declared.token.Token.{Token}
-use Rattle.slicc_lex.specs.Syntax.{symbols}
+use Rattle.slicc_lex.specs.Prelude.{symbols}
 use Rattle.slicc_reading.specs.declared.fault.Fault.{Fault}
 use Rattle.slicc_reading.specs.declared.fault.Fault.TheVariants.{Deep as TooDeep}
-use Rattle.slicc_reading.specs.Reading.{AreParts, Covers, IsNode, IsRead, AreRead, IsStopOf, Refuses}
-use Rattle.slicc_reading.specs.Reading.IsNode.{spelled}
-use Rattle.slicc_reading.specs.Reading.AreParts.{nothing, one, inside, allowed}
-use Rattle.slicc_reading.specs.Reading.Refuses.{no_memory, stops}
+use Rattle.slicc_reading.specs.Prelude.{AreParts, Covers, IsNode, IsRead, AreRead, IsStopOf, Refuses, spelled, nothing, one, inside, allowed, no_memory, stops}
 use Rattle.slicc_ast.proofs.Leading.{name_is_one}
 use Rattle.slicc_reading.proofs.Refusals.{deep_at}
 use Rattle.slicc_reading.proofs.Spans.{token_covers}
@@ -141,12 +132,12 @@ at_no_alternative {room = room} {tokens = tokens} n ahead is = stops (refusal ta
 
 -- a name, where it is read and copied
 pub name_read : (room : ℕ) (text found : List ℕ) (t : Token) (tokens left : List Token)
-    → tokens ≡ t ∷ left → t.kind ≡ Named found → text ≡ found
-    → IsRead room (token_row names_of) (node t.span (token (Named text) none)) tokens tokens left
+    → tokens ≡ t ∷ left → t.kind ≡ Name found → text ≡ found
+    → IsRead room (token_row names_of) (node t.span (token (Name text) none)) tokens tokens left
 name_read room text found t tokens left is same copy =
-    let kind : t.kind ≡ Named text = subst (λ bytes. t.kind ≡ Named bytes) (sym copy) same in
+    let kind : t.kind ≡ Name text = subst (λ bytes. t.kind ≡ Name bytes) (sym copy) same in
     as_node t.span (token_covers t tokens left is)
-    (token_read room names_of (Named text) t tokens left is (subst (λ k. has names_of (kind_of k) ≡ true) (sym kind) (name_is_one text)) kind)
+    (token_read room names_of (Name text) t tokens left is (subst (λ k. has names_of (kind_of k) ≡ true) (sym kind) (name_is_one text)) kind)
 
 -- a string, where it is read and copied
 pub string_read : (room : ℕ) (text found : List ℕ) (t : Token) (tokens left : List Token)

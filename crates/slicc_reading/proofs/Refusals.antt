@@ -1,16 +1,11 @@
 -- The fault at a token that isn't one that must come.
 use Rattle.std.proofs.Common.{◌≡◌, ℕ, zero, suc, ◌<◌, true, false, cond, List, [], ◌∷◌, length, refl, sym, subst, ap, arith}
 use Rattle.std.proofs.lemmas.Bool.{false≢true}
-use Rattle.slicc_ast.specs.Faults.Stop.{Bad, Deep}
-use Rattle.slicc_ast.specs.Kinds.{is_ahead}
-use Rattle.slicc_ast.specs.Reader.{refusal}
-use Rattle.slicc_ast.specs.Written.{openers}
-use Rattle.slicc_ast.specs.Table.{table}
+use Rattle.slicc_ast.specs.Prelude.{Bad, Deep, is_ahead, refusal, openers, table}
 use Rattle.slicc_lex.specs.declared.token.Token.{Token}
-use Rattle.slicc_lex.specs.Syntax.{symbols}
+use Rattle.slicc_lex.specs.Prelude.{symbols}
 use Rattle.slicc_reading.specs.declared.fault.Fault.TheVariants.{Syntax, Deep as TooDeep}
-use Rattle.slicc_reading.specs.Reading.{IsStopOf}
-use Rattle.slicc_reading.specs.Reading.IsStopOf.{is_bad, is_deep, is_short}
+use Rattle.slicc_reading.specs.Prelude.{IsStopOf, is_bad, is_deep, is_short}
 
 pub symbols_length : (tokens : List Token) → length (symbols tokens) ≡ length tokens
 symbols_length [] = refl

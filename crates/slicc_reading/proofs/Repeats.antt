@@ -1,19 +1,12 @@
 -- Loops that read a repeated part into a list, and what the list is spelled by.
 use Rattle.std.proofs.Common.{◌≡◌, ◌==◌, ℕ, suc, rules, true, false, not, IsTrue, List, [], ◌∷◌, ◌++◌, length, refl, sym, subst, ap, ◌∙◌}
 use Rattle.slicc_ast.specs.declared.tree.span.Span.{Span}
-use Rattle.slicc_ast.specs.Outline.{node, none, Parts}
-use Rattle.slicc_ast.specs.Grammar.{first_of}
-use Rattle.slicc_ast.specs.Grammar.Row.{done}
-use Rattle.slicc_ast.specs.Kinds.{is_ahead}
-use Rattle.slicc_ast.specs.Parts.{Part, ◌▸◌, repeated}
-use Rattle.slicc_ast.specs.Table.{table}
+use Rattle.slicc_ast.specs.Prelude.{node, none, Parts, first_of, done, is_ahead, ◌▸◌, repeated, table}
+use Rattle.slicc_ast.specs.Parts.{Part}
 use Rattle.slicc_lex.specs.declared.token.Token.{Token}
-use Rattle.slicc_lex.specs.Syntax.{symbols}
+use Rattle.slicc_lex.specs.Prelude.{symbols}
 use Rattle.slicc_reading.specs.declared.fault.Fault.{Fault}
-use Rattle.slicc_reading.specs.Reading.{AreParts, AreRead, Covers, IsRead, Leads, Refuses}
-use Rattle.slicc_reading.specs.Reading.AreParts.{nothing}
-use Rattle.slicc_reading.specs.Reading.IsNode.{spelled}
-use Rattle.slicc_reading.specs.Reading.{IsSpelledBefore}
+use Rattle.slicc_reading.specs.Prelude.{AreParts, AreRead, Covers, IsRead, Leads, Refuses, nothing, spelled, IsSpelledBefore}
 use Rattle.slicc_reading.proofs.Choices.{leads_here, leads_behind, once_more, fault_in_more, no_more, all_of}
 
 -- the parts of each of a list, and then further parts

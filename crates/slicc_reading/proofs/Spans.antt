@@ -3,10 +3,10 @@ use Rattle.std.proofs.Common.{◌≡◌, ℕ, suc, ◌-◌, ◌+◌, List, [], �
 use Rattle.std.specs.List.{slice_get}
 use Rattle.std.proofs.Math.Seq.{take-append_seam}
 use Rattle.slicc_ast.specs.declared.tree.span.Span.{Span}
-use Rattle.slicc_ast.specs.Outline.{covering, last_end}
+use Rattle.slicc_ast.specs.Prelude.{covering, last_end}
 use Rattle.slicc_lex.specs.declared.token.Token.{Token}
-use Rattle.slicc_lex.specs.Spells.{token_spans}
-use Rattle.slicc_reading.specs.Reading.{Covers}
+use Rattle.slicc_lex.specs.Prelude.{token_spans}
+use Rattle.slicc_reading.specs.Prelude.{Covers}
 
 own_is : (own tokens left : List Token) → tokens ≡ own ++ left → take (length tokens - length left) tokens ≡ own
 own_is own tokens left is =

@@ -1,11 +1,9 @@
 -- A node that was read is spelled by the tokens up to those that are left.
 use Rattle.std.proofs.Common.{◌≡◌, ◌&&◌, Bool, true, false, List, [], ◌∷◌, ◌++◌, refl, sym, ap, ◌∙◌, append_assoc}
-use Rattle.slicc_ast.specs.Outline.{Outline, Parts, kinds_of, kinds_in, is_allowed, are_allowed, IsPlaced, ArePlaced}
+use Rattle.slicc_ast.specs.Prelude.{Outline, Parts, kinds_of, kinds_in, is_allowed, are_allowed, IsPlaced, ArePlaced}
 use Rattle.slicc_lex.specs.declared.token.Token.{Token}
-use Rattle.slicc_lex.specs.Spells.{SpellsNode, token_kinds, token_spans}
-use Rattle.slicc_reading.specs.Reading.{IsNode, AreParts}
-use Rattle.slicc_reading.specs.Reading.IsNode.{spelled}
-use Rattle.slicc_reading.specs.Reading.AreParts.{nothing, one, inside, allowed}
+use Rattle.slicc_lex.specs.Prelude.{SpellsNode, token_kinds, token_spans}
+use Rattle.slicc_reading.specs.Prelude.{IsNode, AreParts, spelled, nothing, one, inside, allowed}
 
 pub record IsNodeOf (outline : Outline) (tokens left : List Token) : Type 0 where
   pub own : List Token

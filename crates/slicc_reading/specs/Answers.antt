@@ -1,8 +1,8 @@
 -- What a reading of tokens from a place on answers, fault by fault.
 use Rattle.std.specs.Prelude.{ℕ, ◌-◌, List}
-use Rattle.slicc_ast.specs.Form.{Form}
+use Rattle.slicc_ast.specs.Prelude.{Form}
 use Rattle.slicc_lex.specs.declared.token.Token.{Token}
-use Rattle.slicc_lex.specs.Syntax.{IsBadAt, IsDeepAt}
+use Rattle.slicc_lex.specs.Prelude.{IsBadAt, IsDeepAt}
 use Rattle.slicc_reading.specs.declared.fault.Fault.{Fault}
 use Rattle.slicc_reading.specs.declared.fault.Fault.TheVariants.{Syntax as SyntaxLeft, Deep as DeepLeft, NoMemory as NoMemoryLeft}
 use Rattle.slicc_reading.specs.declared.fault.SyntaxFault.{SyntaxFault}

@@ -3,8 +3,7 @@ use Rattle.std.specs.Prelude.{◌≡◌, ℕ, List, ◌∷◌}
 use Rattle.slicc_ast.specs.declared.tree.token.TokenKind.TheVariants.{Name, Number, Quoted}
 use Rattle.slicc_ast.specs.declared.tree.declaration.PairValue.{PairValue}
 use Rattle.slicc_ast.specs.declared.tree.declaration.PairValue.TheVariants.{Quoted as QuotedValue, Number as NumberValue, Name as NameValue}
-use Rattle.slicc_ast.specs.Parts.{names_of}
-use Rattle.slicc_ast.specs.TokenKinds.{number, quoted}
+use Rattle.slicc_ast.specs.Prelude.{names_of, number, quoted}
 use Rattle.slicc_lex.specs.declared.token.Token.{Token}
 
 abbrev pub value_kinds : List ℕ

@@ -3,11 +3,9 @@ use Rattle.std.specs.Prelude.{ℕ, List, [], ◌∷◌}
 use Rattle.slicc_ast.specs.declared.tree.balanced.Balanced.{Balanced}
 use Rattle.slicc_ast.specs.declared.tree.token.Sign.{Sign}
 use Rattle.slicc_ast.specs.declared.tree.token.Sign.TheVariants.{OpenBrace, OpenBracket, OpenParenthesis}
-use Rattle.slicc_ast.specs.Names.{balanced as balanced_parts, balanced_list, sign as sign_of}
-use Rattle.slicc_ast.specs.Outline.{Outline, node, Parts}
-use Rattle.slicc_ast.specs.Grammar.Row.{done, nested}
-use Rattle.slicc_ast.specs.Parts.{Part, ◌▸◌, balanced, sign}
-use Rattle.slicc_ast.specs.TokenKinds.{sign_kind}
+use Rattle.slicc_ast.specs.Names.{balanced as balanced_parts, sign as sign_of}
+use Rattle.slicc_ast.specs.Prelude.{balanced_list, Outline, node, Parts, done, nested, ◌▸◌, sign_kind}
+use Rattle.slicc_ast.specs.Parts.{Part, balanced, sign}
 
 abbrev pub balanced_outline : Balanced → Outline
 balanced_outline b = node b.span (balanced_list b.parts)

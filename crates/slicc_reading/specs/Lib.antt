@@ -2,3 +2,4 @@ pub mod Reading
 pub mod Answers
 pub mod Attributes
 pub mod Brackets
+pub mod Prelude

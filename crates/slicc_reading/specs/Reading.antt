@@ -7,16 +7,12 @@ use Rattle.slicc_ast.specs.declared.tree.token.TokenKind.TheVariants.{Sign as Si
 use Rattle.slicc_ast.specs.declared.tree.token.Sign.{Sign}
 use Rattle.slicc_ast.specs.declared.tree.token.Sign.TheVariants.{OpenParenthesis, CloseParenthesis, Semicolon}
 use Rattle.slicc_ast.specs.declared.tree.token.Word.{Word}
-use Rattle.slicc_ast.specs.Names.{sign as sign_parts, word as word_parts}
-use Rattle.slicc_ast.specs.Outline.{Outline, node, Parts, none, token, part, provided, covering}
-use Rattle.slicc_ast.specs.Faults.{Stop}
-use Rattle.slicc_ast.specs.Faults.Stop.{Bad, Deep, Short}
-use Rattle.slicc_ast.specs.Reader.{Passes, Fails}
+use Rattle.slicc_ast.specs.Names.{sign, word as word_parts}
+use Rattle.slicc_ast.specs.Outline.{token}
+use Rattle.slicc_ast.specs.Prelude.{Outline, node, Parts, none, part, provided, covering, Stop, Bad, Deep, Short, Passes, Fails, table}
 use Rattle.slicc_ast.specs.Parts.{Part, word}
-use Rattle.slicc_ast.specs.Table.{table}
 use Rattle.slicc_lex.specs.declared.token.Token.{Token}
-use Rattle.slicc_lex.specs.Spells.{token_spans}
-use Rattle.slicc_lex.specs.Syntax.{symbols}
+use Rattle.slicc_lex.specs.Prelude.{token_spans, symbols}
 use Rattle.slicc_reading.specs.declared.fault.Fault.{Fault}
 use Rattle.slicc_reading.specs.declared.fault.Fault.TheVariants.{Syntax, Deep as TooDeep, NoMemory}
 
@@ -79,7 +75,7 @@ pub record IsCalled (room : ℕ) (head : Word) (tokens left : List Token) : Type
 
 -- the word, and parts in parentheses with `;` behind them
 abbrev pub call_parts : Word → (Parts → Parts) → Parts → Parts
-call_parts head parts others = word_parts head (sign_parts OpenParenthesis (parts (sign_parts CloseParenthesis (sign_parts Semicolon others))))
+call_parts head parts others = word_parts head (sign OpenParenthesis (parts (sign CloseParenthesis (sign Semicolon others))))
 
 -- the fault is that of a stop
 pub data IsStopOf : Stop → Fault → Type 0 where

@@ -1,17 +1,14 @@
 //! Attributes.
 ghost use Rattle.std.specs.Prelude.{◌≡◌, ◌<◌, false, length, IfOk, MatchOption, MatchResult};
-ghost use Rattle.slicc_ast.specs.Kinds.{has};
-ghost use Rattle.slicc_ast.specs.Declarations.{pair as pair_of, pair_list, pair_value as value_parts};
+ghost use Rattle.slicc_ast.specs.Prelude.{has, pair_list, pair_value, node, part, ◌▸◌, comma, of, value, kind_of};
+ghost use Rattle.slicc_ast.specs.Declarations.{pair};
 ghost use Rattle.slicc_ast.specs.Names.{name as name_of, sign as sign_of};
-ghost use Rattle.slicc_ast.specs.Outline.{node, part};
 ghost use Rattle.slicc_ast.specs.declared.tree.token.Sign.TheVariants.{Comma, Equals};
 ghost use Rattle.slicc_ast.specs.Form.Form.{pair as pair_form};
-ghost use Rattle.slicc_ast.specs.Parts.{◌▸◌, comma, name as name_part, of, pairs as pairs_part, sign as sign_part, value};
-ghost use Rattle.slicc_ast.specs.TokenKinds.{kind_of};
-ghost use Rattle.slicc_reading.specs.Attributes.{IsValue, value_kinds};
-ghost use Rattle.slicc_reading.specs.Reading.{AreRead, IsRead, Refuses};
+ghost use Rattle.slicc_ast.specs.Parts.{name as name_part, pairs, sign as sign_part};
+ghost use Rattle.slicc_reading.specs.Prelude.{IsValue, value_kinds, AreRead, IsRead, Refuses};
 
-use crate::fault::Fault;
+use crate::fault::{Fault, Read};
 use crate::kept::added;
 use crate::leaf::{is_name, is_sign, is_string, name, refuse, sign, span, split_first, string};
 use slicc_ast::tree::{Name, Pair, PairValue, Pairs, Sign, TokenKind};
@@ -35,9 +32,9 @@ fn value_of(alloc: Global, token: &Token) -> Result<Option<PairValue>, NoMemory>
 }
 
 /// A string, a number or a name.
-fn pair_value(alloc: Global, room: u32, tokens: &[Token]) -> Result<(PairValue, &[Token]), Fault>
+fn pair_value(alloc: Global, room: u32, tokens: &[Token]) -> Read<PairValue>
     ensures read { MatchResult result
-        (λ read. AreRead room value (value_parts read.0) tokens.now read.1.now)
+        (λ read. AreRead room value (pair_value read.0) tokens.now read.1.now)
         (Refuses room value tokens.now) }
     ensures shorter { IfOk result (λ read. length read.1.now < length tokens.now) }
 {
@@ -52,9 +49,9 @@ fn pair_value(alloc: Global, room: u32, tokens: &[Token]) -> Result<(PairValue, 
 }
 
 /// `=` and a value.
-pub fn assigned(alloc: Global, room: u32, tokens: &[Token]) -> Result<(PairValue, &[Token]), Fault>
+pub fn assigned(alloc: Global, room: u32, tokens: &[Token]) -> Read<PairValue>
     ensures read { MatchResult result
-        (λ read. AreRead room (sign_part Equals ▸ value) (λ others. sign_of Equals (value_parts read.0 others)) tokens.now read.1.now)
+        (λ read. AreRead room (sign_part Equals ▸ value) (λ others. sign_of Equals (pair_value read.0 others)) tokens.now read.1.now)
         (Refuses room (sign_part Equals ▸ value) tokens.now) }
     ensures shorter { IfOk result (λ read. length read.1.now < length tokens.now) }
 {
@@ -65,9 +62,9 @@ pub fn assigned(alloc: Global, room: u32, tokens: &[Token]) -> Result<(PairValue
 }
 
 /// An attribute: a name with a value, or a string.
-pub fn pair(alloc: Global, room: u32, tokens: &[Token]) -> Result<(Pair, &[Token]), Fault>
+pub fn pair(alloc: Global, room: u32, tokens: &[Token]) -> Read<Pair>
     ensures read { MatchResult result
-        (λ read. IsRead room (of pair_form) (pair_of read.0) tokens.now tokens.now read.1.now)
+        (λ read. IsRead room (of pair_form) (pair read.0) tokens.now tokens.now read.1.now)
         (Refuses room (of pair_form) tokens.now) }
     ensures shorter { IfOk result (λ read. length read.1.now < length tokens.now) }
 {
@@ -83,9 +80,9 @@ pub fn pair(alloc: Global, room: u32, tokens: &[Token]) -> Result<(Pair, &[Token
     }
 }
 
-fn named_pair(alloc: Global, room: u32, tokens: &[Token]) -> Result<(Pair, &[Token]), Fault>
+fn named_pair(alloc: Global, room: u32, tokens: &[Token]) -> Read<Pair>
     ensures read { MatchResult result
-        (λ read. IsRead room (name_part ▸ sign_part Equals ▸ value) (pair_of read.0) tokens.now tokens.now read.1.now)
+        (λ read. IsRead room (name_part ▸ sign_part Equals ▸ value) (pair read.0) tokens.now tokens.now read.1.now)
         (Refuses room (name_part ▸ sign_part Equals ▸ value) tokens.now) }
     ensures shorter { IfOk result (λ read. length read.1.now < length tokens.now) }
 {
@@ -102,9 +99,9 @@ fn named_pair(alloc: Global, room: u32, tokens: &[Token]) -> Result<(Pair, &[Tok
 }
 
 /// A comma and an attribute.
-pub fn next_pair(alloc: Global, room: u32, tokens: &[Token]) -> Result<(Pair, &[Token]), Fault>
+pub fn next_pair(alloc: Global, room: u32, tokens: &[Token]) -> Read<Pair>
     ensures read { MatchResult result
-        (λ read. AreRead room (comma ▸ of pair_form) (λ others. sign_of Comma (part (pair_of read.0) others)) tokens.now read.1.now)
+        (λ read. AreRead room (comma ▸ of pair_form) (λ others. sign_of Comma (part (pair read.0) others)) tokens.now read.1.now)
         (Refuses room (comma ▸ of pair_form) tokens.now) }
     ensures shorter { IfOk result (λ read. length read.1.now < length tokens.now) }
 {
@@ -115,10 +112,10 @@ pub fn next_pair(alloc: Global, room: u32, tokens: &[Token]) -> Result<(Pair, &[
 }
 
 /// Any number of attributes, each behind a comma.
-pub fn pairs(alloc: Global, room: u32, tokens: &[Token]) -> Result<(Pairs, &[Token]), Fault>
+pub fn pairs(alloc: Global, room: u32, tokens: &[Token]) -> Read<Pairs>
     ensures { MatchResult result
-        (λ read. IsRead room pairs_part (node read.0.span (pair_list read.0.items)) tokens.now tokens.now read.1.now)
-        (Refuses room pairs_part tokens.now) }
+        (λ read. IsRead room pairs (node read.0.span (pair_list read.0.items)) tokens.now tokens.now read.1.now)
+        (Refuses room pairs tokens.now) }
 {
     let mut items = Seq::new(alloc);
     let mut left = tokens;

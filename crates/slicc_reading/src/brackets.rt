@@ -1,17 +1,14 @@
 //! Tokens of which no more is known than that brackets close in pairs.
 ghost use Rattle.std.specs.Prelude.{◌≡◌, ◌<◌, true, length, IfOk, MatchResult};
-ghost use Rattle.slicc_ast.specs.Kinds.{has, is_ahead};
-ghost use Rattle.slicc_ast.specs.Names.{balanced_part as part_parts};
+ghost use Rattle.slicc_ast.specs.Prelude.{has, is_ahead, first_of_form, of, unbracketed, kind_of, sign_kind};
+ghost use Rattle.slicc_ast.specs.Names.{balanced_part};
 ghost use Rattle.slicc_ast.specs.declared.tree.token.Sign.TheVariants.{CloseBrace, CloseBracket, CloseParenthesis, OpenBrace, OpenBracket, OpenParenthesis};
-ghost use Rattle.slicc_ast.specs.Ahead.{first_of_form};
 ghost use Rattle.slicc_ast.specs.Form.Form.{balanced_part as part_form};
-ghost use Rattle.slicc_ast.specs.Parts.{balanced as balanced_form, of, unbracketed};
-ghost use Rattle.slicc_ast.specs.TokenKinds.{kind_of, sign_kind};
-ghost use Rattle.slicc_lex.specs.Syntax.{symbols};
-ghost use Rattle.slicc_reading.specs.Brackets.{balanced_outline, bracketed as bracketed_form, bracketed_parts, opening_brackets};
-ghost use Rattle.slicc_reading.specs.Reading.{AreRead, IsRead, Refuses};
+ghost use Rattle.slicc_ast.specs.Parts.{balanced};
+ghost use Rattle.slicc_lex.specs.Prelude.{symbols};
+ghost use Rattle.slicc_reading.specs.Prelude.{balanced_outline, bracketed, bracketed_parts, opening_brackets, AreRead, IsRead, Refuses};
 
-use crate::fault::Fault;
+use crate::fault::{Fault, Read};
 use crate::kept::{added, ended};
 use crate::leaf::{is_sign, open, refuse, span, split_first};
 use slicc_ast::tree::{Balanced, Part, Sign, TokenKind};
@@ -85,10 +82,10 @@ fn copied_kind(alloc: Global, kind: &TokenKind) -> Result<TokenKind, NoMemory>
 }
 
 /// A token that is no bracket.
-fn loose(alloc: Global, room: u32, tokens: &[Token]) -> Result<(Part, &[Token]), Fault>
+fn loose(alloc: Global, room: u32, tokens: &[Token]) -> Read<Part>
     requires { is_ahead unbracketed (symbols tokens.now) ≡ true }
     ensures read { MatchResult result
-        (λ read. AreRead room (of part_form) (part_parts read.0) tokens.now read.1.now)
+        (λ read. AreRead room (of part_form) (balanced_part read.0) tokens.now read.1.now)
         (Refuses room (of part_form) tokens.now) }
     ensures shorter { IfOk result (λ read. length read.1.now < length tokens.now) }
 {
@@ -103,10 +100,10 @@ fn loose(alloc: Global, room: u32, tokens: &[Token]) -> Result<(Part, &[Token]),
 
 /// Any tokens in which brackets close in pairs, as far as they go.
 #[cycle(balanced)]
-pub fn balanced(alloc: Global, room: u32, tokens: &[Token]) -> Result<(Balanced, &[Token]), Fault>
+pub fn balanced(alloc: Global, room: u32, tokens: &[Token]) -> Read<Balanced>
     ensures { MatchResult result
-        (λ read. IsRead room balanced_form (balanced_outline read.0) tokens.now tokens.now read.1.now)
-        (Refuses room balanced_form tokens.now) }
+        (λ read. IsRead room balanced (balanced_outline read.0) tokens.now tokens.now read.1.now)
+        (Refuses room balanced tokens.now) }
 {
     let mut parts = Seq::new(alloc);
     let mut left = tokens;
@@ -122,10 +119,10 @@ pub fn balanced(alloc: Global, room: u32, tokens: &[Token]) -> Result<(Balanced,
 
 /// A token that is no bracket, or a pair of brackets with what is between them.
 #[cycle(balanced)]
-fn next_part(alloc: Global, room: u32, tokens: &[Token]) -> Result<(Part, &[Token]), Fault>
+fn next_part(alloc: Global, room: u32, tokens: &[Token]) -> Read<Part>
     requires { is_ahead (first_of_form part_form) (symbols tokens.now) ≡ true }
     ensures read { MatchResult result
-        (λ read. AreRead room (of part_form) (part_parts read.0) tokens.now read.1.now)
+        (λ read. AreRead room (of part_form) (balanced_part read.0) tokens.now read.1.now)
         (Refuses room (of part_form) tokens.now) }
     ensures shorter { IfOk result (λ read. length read.1.now < length tokens.now) }
 {
@@ -133,56 +130,23 @@ fn next_part(alloc: Global, room: u32, tokens: &[Token]) -> Result<(Part, &[Toke
         return loose(alloc, room, tokens);
     }
     if is_sign(Sign::OpenParenthesis, tokens) {
-        return in_parentheses(alloc, room, tokens);
+        return match bracketed(
+            alloc,
+            room,
+            Sign::OpenParenthesis,
+            Sign::CloseParenthesis,
+            tokens,
+        ) {
+            Ok((inner, left)) => Ok((Part::Parentheses(inner), left)),
+            Err(fault) => Err(fault),
+        };
     }
     if is_sign(Sign::OpenBracket, tokens) {
-        return in_brackets(alloc, room, tokens);
+        return match bracketed(alloc, room, Sign::OpenBracket, Sign::CloseBracket, tokens) {
+            Ok((inner, left)) => Ok((Part::Brackets(inner), left)),
+            Err(fault) => Err(fault),
+        };
     }
-    in_braces(alloc, room, tokens)
-}
-
-#[cycle(balanced)]
-fn in_parentheses(alloc: Global, room: u32, tokens: &[Token]) -> Result<(Part, &[Token]), Fault>
-    ensures read { MatchResult result
-        (λ read. AreRead room (bracketed_form OpenParenthesis CloseParenthesis)
-        (part_parts read.0) tokens.now read.1.now)
-        (Refuses room (bracketed_form OpenParenthesis CloseParenthesis) tokens.now) }
-    ensures shorter { IfOk result (λ read. length read.1.now < length tokens.now) }
-{
-    match bracketed(
-        alloc,
-        room,
-        Sign::OpenParenthesis,
-        Sign::CloseParenthesis,
-        tokens,
-    ) {
-        Ok((inner, left)) => Ok((Part::Parentheses(inner), left)),
-        Err(fault) => Err(fault),
-    }
-}
-
-#[cycle(balanced)]
-fn in_brackets(alloc: Global, room: u32, tokens: &[Token]) -> Result<(Part, &[Token]), Fault>
-    ensures read { MatchResult result
-        (λ read. AreRead room (bracketed_form OpenBracket CloseBracket)
-        (part_parts read.0) tokens.now read.1.now)
-        (Refuses room (bracketed_form OpenBracket CloseBracket) tokens.now) }
-    ensures shorter { IfOk result (λ read. length read.1.now < length tokens.now) }
-{
-    match bracketed(alloc, room, Sign::OpenBracket, Sign::CloseBracket, tokens) {
-        Ok((inner, left)) => Ok((Part::Brackets(inner), left)),
-        Err(fault) => Err(fault),
-    }
-}
-
-#[cycle(balanced)]
-fn in_braces(alloc: Global, room: u32, tokens: &[Token]) -> Result<(Part, &[Token]), Fault>
-    ensures read { MatchResult result
-        (λ read. AreRead room (bracketed_form OpenBrace CloseBrace)
-        (part_parts read.0) tokens.now read.1.now)
-        (Refuses room (bracketed_form OpenBrace CloseBrace) tokens.now) }
-    ensures shorter { IfOk result (λ read. length read.1.now < length tokens.now) }
-{
     match bracketed(alloc, room, Sign::OpenBrace, Sign::CloseBrace, tokens) {
         Ok((inner, left)) => Ok((Part::Braces(inner), left)),
         Err(fault) => Err(fault),
@@ -197,11 +161,11 @@ pub fn bracketed(
     opener: Sign,
     closer: Sign,
     tokens: &[Token],
-) -> Result<(Balanced, &[Token]), Fault>
+) -> Read<Balanced>
     ensures read { MatchResult result
-        (λ read. AreRead room (bracketed_form opener closer)
+        (λ read. AreRead room (bracketed opener closer)
         (bracketed_parts opener closer read.0) tokens.now read.1.now)
-        (Refuses room (bracketed_form opener closer) tokens.now) }
+        (Refuses room (bracketed opener closer) tokens.now) }
     ensures shorter { IfOk result (λ read. length read.1.now < length tokens.now) }
 {
     match open(room, opener, tokens) {

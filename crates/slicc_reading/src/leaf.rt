@@ -1,22 +1,14 @@
 //! The parts that are one token.
 ghost use Rattle.std.specs.Prelude.{◌≡◌, ◌∷◌, ◌<◌, [], IsTrue, false, IfErr, IfOk, MatchOption, MatchResult, length};
-ghost use Rattle.slicc_ast.specs.Grammar.Row.{nested};
-ghost use Rattle.slicc_ast.specs.Grammar.{Row};
-ghost use Rattle.slicc_ast.specs.Kinds.{has, is_ahead};
-ghost use Rattle.slicc_ast.specs.Reader.{refusal};
+ghost use Rattle.slicc_ast.specs.Prelude.{nested, Row, has, is_ahead, refusal, last_end, node, none, openers, Form, names_of, string, type, table, kind_of, quoted, sign_kind, word_kind};
 ghost use Rattle.slicc_ast.specs.Names.{sign as sign_of, word as word_of};
-ghost use Rattle.slicc_ast.specs.Outline.{last_end, node, none, token};
-ghost use Rattle.slicc_ast.specs.declared.tree.token.TokenKind.TheVariants.{Name as Named, Quoted as QuotedKind, Sign as SignOf, Word as WordOf};
-ghost use Rattle.slicc_ast.specs.Written.{openers};
-ghost use Rattle.slicc_ast.specs.Form.{Form};
-ghost use Rattle.slicc_ast.specs.Parts.{name as name_part, names_of, sign as sign_part, string as string_part, type as type_part, word as word_part};
-ghost use Rattle.slicc_ast.specs.Table.{table};
-ghost use Rattle.slicc_ast.specs.TokenKinds.{kind_of, quoted, sign_kind, word_kind};
-ghost use Rattle.slicc_lex.specs.Spells.{token_spans};
-ghost use Rattle.slicc_lex.specs.Syntax.{symbols};
-ghost use Rattle.slicc_reading.specs.Reading.{AreRead, Covers, IsOpened, IsRead, IsStopOf, Refuses};
+ghost use Rattle.slicc_ast.specs.Outline.{token};
+ghost use Rattle.slicc_ast.specs.declared.tree.token.TokenKind.TheVariants.{Name as Named, Quoted, Sign as SignOf, Word as WordOf};
+ghost use Rattle.slicc_ast.specs.Parts.{name, sign as sign_part, word as word_part};
+ghost use Rattle.slicc_lex.specs.Prelude.{token_spans, symbols};
+ghost use Rattle.slicc_reading.specs.Prelude.{AreRead, Covers, IsOpened, IsRead, IsStopOf, Refuses};
 
-use crate::fault::Fault;
+use crate::fault::{Fault, Read};
 use slicc_ast::tree::{Name, Sign, Span, TokenKind, TypeName, Word};
 use slicc_ast::{Seq, Text};
 use slicc_lex::Token;
@@ -189,8 +181,8 @@ pub fn open(room: u32, opener: Sign, tokens: &[Token]) -> Result<&[Token], Fault
 /// The text and the place of a name.
 fn name_text(alloc: Global, room: u32, tokens: &[Token]) -> Result<(Text, Span, &[Token]), Fault>
     ensures read { MatchResult result
-        (λ read. IsRead room name_part (node read.1 (token (Named read.0) none)) tokens.now tokens.now read.2.now)
-        (Refuses room name_part tokens.now) }
+        (λ read. IsRead room name (node read.1 (token (Named read.0) none)) tokens.now tokens.now read.2.now)
+        (Refuses room name tokens.now) }
     ensures shorter { IfOk result (λ read. length read.2.now < length tokens.now) }
 {
     let Some((first, left)) = split_first(tokens) else {
@@ -206,10 +198,10 @@ fn name_text(alloc: Global, room: u32, tokens: &[Token]) -> Result<(Text, Span, 
 }
 
 /// A name.
-pub fn name(alloc: Global, room: u32, tokens: &[Token]) -> Result<(Name, &[Token]), Fault>
+pub fn name(alloc: Global, room: u32, tokens: &[Token]) -> Read<Name>
     ensures read { MatchResult result
-        (λ read. IsRead room name_part (node read.0.span (token (Named read.0.text) none)) tokens.now tokens.now read.1.now)
-        (Refuses room name_part tokens.now) }
+        (λ read. IsRead room name (node read.0.span (token (Named read.0.text) none)) tokens.now tokens.now read.1.now)
+        (Refuses room name tokens.now) }
     ensures shorter { IfOk result (λ read. length read.1.now < length tokens.now) }
 {
     match name_text(alloc, room, tokens) {
@@ -219,10 +211,10 @@ pub fn name(alloc: Global, room: u32, tokens: &[Token]) -> Result<(Name, &[Token
 }
 
 /// The name of a type.
-pub fn type_name(alloc: Global, room: u32, tokens: &[Token]) -> Result<(TypeName, &[Token]), Fault>
+pub fn type_name(alloc: Global, room: u32, tokens: &[Token]) -> Read<TypeName>
     ensures read { MatchResult result
-        (λ read. IsRead room type_part (node read.0.span (token (Named read.0.text) none)) tokens.now tokens.now read.1.now)
-        (Refuses room type_part tokens.now) }
+        (λ read. IsRead room type (node read.0.span (token (Named read.0.text) none)) tokens.now tokens.now read.1.now)
+        (Refuses room type tokens.now) }
     ensures shorter { IfOk result (λ read. length read.1.now < length tokens.now) }
 {
     match name_text(alloc, room, tokens) {
@@ -241,7 +233,7 @@ fn name_of(kind: &TokenKind) -> Option<&[u8]>
 }
 
 fn string_of(kind: &TokenKind) -> Option<&[u8]>
-    ensures { MatchOption result (has (quoted ∷ []) (kind_of kind.now) ≡ false) (λ text. kind.now ≡ QuotedKind text.now) }
+    ensures { MatchOption result (has (quoted ∷ []) (kind_of kind.now) ≡ false) (λ text. kind.now ≡ Quoted text.now) }
 {
     match kind {
         TokenKind::Quoted(text) => Some(text.as_slice()),
@@ -250,10 +242,10 @@ fn string_of(kind: &TokenKind) -> Option<&[u8]>
 }
 
 /// The text of a string.
-pub fn string(alloc: Global, room: u32, tokens: &[Token]) -> Result<(Text, &[Token]), Fault>
+pub fn string(alloc: Global, room: u32, tokens: &[Token]) -> Read<Text>
     ensures read { MatchResult result
-        (λ read. AreRead room string_part (token (QuotedKind read.0)) tokens.now read.1.now)
-        (Refuses room string_part tokens.now) }
+        (λ read. AreRead room string (token (Quoted read.0)) tokens.now read.1.now)
+        (Refuses room string tokens.now) }
     ensures shorter { IfOk result (λ read. length read.1.now < length tokens.now) }
 {
     let Some((first, left)) = split_first(tokens) else {

@@ -6,20 +6,16 @@
 mod attributes;
 mod brackets;
 mod fault;
-mod heads;
 mod kept;
 mod leaf;
 mod numbers;
-mod places;
 
 pub use attributes::{assigned, next_pair, pair, pairs};
 pub use brackets::{balanced, bracketed};
-pub use fault::{Fault, SyntaxFault};
-pub use heads::{called, name_after};
-pub use kept::{added, ended, ended_call, joined};
+pub use fault::{Fault, Read, SyntaxFault, place, placed, room_within};
+pub use kept::{added, called, ended, ended_call, joined, name_after};
 pub use leaf::{
     is_name, is_sign, is_string, is_word, name, open, refuse, sign, span, split_first, string,
     type_name, word,
 };
 pub use numbers::{is_number, number};
-pub use places::{place, placed, room_within};

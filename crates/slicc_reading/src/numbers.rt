@@ -1,20 +1,18 @@
 //! Numbers.
 ghost use Rattle.std.specs.Prelude.{◌≡◌, ◌∷◌, ◌<◌, [], false, length, IfOk, MatchOption, MatchResult};
-ghost use Rattle.slicc_ast.specs.Kinds.{has, is_ahead};
+ghost use Rattle.slicc_ast.specs.Prelude.{has, is_ahead, number_token, kind_of, number};
 ghost use Rattle.slicc_ast.specs.Outline.{token};
-ghost use Rattle.slicc_ast.specs.declared.tree.token.TokenKind.TheVariants.{Number as Numeral};
-ghost use Rattle.slicc_ast.specs.Parts.{number_token};
-ghost use Rattle.slicc_ast.specs.TokenKinds.{kind_of, number};
-ghost use Rattle.slicc_lex.specs.Syntax.{symbols};
-ghost use Rattle.slicc_reading.specs.Reading.{AreRead, Refuses};
+ghost use Rattle.slicc_ast.specs.declared.tree.token.TokenKind.TheVariants.{Number};
+ghost use Rattle.slicc_lex.specs.Prelude.{symbols};
+ghost use Rattle.slicc_reading.specs.Prelude.{AreRead, Refuses};
 
-use crate::fault::Fault;
+use crate::fault::Read;
 use crate::leaf::{refuse, split_first};
 use slicc_ast::tree::TokenKind;
 use slicc_lex::Token;
 
 fn number_of(kind: &TokenKind) -> Option<i64>
-    ensures { MatchOption result (has (number ∷ []) (kind_of kind.now) ≡ false) (λ n. kind.now ≡ Numeral n) }
+    ensures { MatchOption result (has (number ∷ []) (kind_of kind.now) ≡ false) (λ n. kind.now ≡ Number n) }
 {
     match kind {
         TokenKind::Number(found) => Some(*found),
@@ -42,9 +40,9 @@ pub fn is_number(tokens: &[Token]) -> bool
 }
 
 /// A number.
-pub fn number(room: u32, tokens: &[Token]) -> Result<(i64, &[Token]), Fault>
+pub fn number(room: u32, tokens: &[Token]) -> Read<i64>
     ensures read { MatchResult result
-        (λ read. AreRead room number_token (token (Numeral read.0)) tokens.now read.1.now)
+        (λ read. AreRead room number_token (token (Number read.0)) tokens.now read.1.now)
         (Refuses room number_token tokens.now) }
     ensures shorter { IfOk result (λ read. length read.1.now < length tokens.now) }
 {

@@ -12,12 +12,11 @@ use Rattle.slicc_ast.specs.declared.tree.expression.Suffix.{Suffix}
 use Rattle.slicc_ast.specs.declared.tree.expression.Suffix as suffixed
 use Rattle.slicc_ast.specs.declared.tree.expression.Expr.TheViews.{the_lemmas}
 use Rattle.slicc_ast.proofs.RowsOfExpressions.{args_of_row}
-use Rattle.slicc_ast.specs.Expressions.{args_list, expr, list_level, mode_parts, suffix}
+use Rattle.slicc_ast.specs.Expressions.{suffix}
+use Rattle.slicc_ast.specs.Prelude.{args_list, expr, list_level, mode_parts, Outline, none, part, shape_of}
 use Rattle.slicc_ast.specs.declared.tree.token.Sign.TheVariants.{CloseParenthesis}
 use Rattle.slicc_ast.specs.Names.{sign}
-use Rattle.slicc_ast.specs.Outline.{Outline, none, part, shape_of}
-use Rattle.slicc_same.specs.Alike.{alike, all_alike, same_parts, same_shape}
-use Rattle.slicc_same.specs.AlikeItems.{alike_operand, alike_suffix}
+use Rattle.slicc_same.specs.Prelude.{alike, all_alike, same_parts, same_shape, alike_operand, alike_suffix}
 use Rattle.slicc_same.proofs.Bools.{and_true, and_false, second_false}
 use Rattle.slicc_ast.specs.declared.tree.expression.Expr.TheBlock as block
 use Rattle.slicc_same.proofs.ExpressionForms.{ExprIs, is_Not, is_Negate, is_Number, is_True, is_False, is_Nothing, is_Variable, is_New, is_IsValid, is_IsInvalid, is_Cast, is_Group, is_Member, is_Call, is_Operation, is_Postfix}

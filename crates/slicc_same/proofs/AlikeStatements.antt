@@ -11,12 +11,8 @@ use Rattle.slicc_ast.specs.declared.tree.statement.Block.{Block}
 use Rattle.slicc_ast.specs.declared.tree.statement.PrintWord.{PrintWord}
 use Rattle.slicc_ast.specs.declared.tree.statement.Stmt as made
 use Rattle.slicc_ast.specs.declared.tree.statement.Stmt.TheViews.{the_lemmas}
-use Rattle.slicc_ast.specs.Declarations.{pair_list}
-use Rattle.slicc_ast.specs.Expressions.{expr}
-use Rattle.slicc_ast.specs.Names.{balanced_list}
-use Rattle.slicc_ast.specs.Outline.{none}
-use Rattle.slicc_ast.specs.Statements.{block_end, optional_expr, print_word, stmt, stmt_list}
-use Rattle.slicc_same.specs.Alike.{same_parts, same_shape, word_number}
+use Rattle.slicc_ast.specs.Prelude.{pair_list, expr, balanced_list, none, block_end, optional_expr, print_word, stmt, stmt_list}
+use Rattle.slicc_same.specs.Prelude.{same_parts, same_shape, word_number}
 use Rattle.slicc_same.proofs.Bools.{and_grouped, and_true}
 use Rattle.slicc_same.proofs.StatementLists.{statements_of_row}
 

@@ -3,10 +3,9 @@ use Rattle.std.proofs.Common.{◌≡◌, ◌&&◌, Bool, true, false, List, [], 
 use Rattle.slicc_ast.specs.declared.tree.balanced.Part.{Part, Token, Parentheses', Brackets', Braces', Row_of-Part, end_of-Part, more_of-Part, items-the_row-Part}
 use Rattle.slicc_ast.specs.declared.tree.token.TokenKind.TheVariants.{Sign}
 use Rattle.slicc_ast.specs.declared.tree.token.Sign.TheVariants.{OpenParenthesis, OpenBracket, OpenBrace, CloseParenthesis, CloseBracket, CloseBrace}
-use Rattle.slicc_ast.specs.Names.{sign, balanced_part, balanced_row, balanced_list}
-use Rattle.slicc_ast.specs.Outline.{Outline, node, Parts, part, shape_of, shape_in}
-use Rattle.slicc_same.specs.Alike.{alike_in, alike_kind, all_alike, same_parts}
-use Rattle.slicc_same.specs.AlikeItems.{alike_part}
+use Rattle.slicc_ast.specs.Names.{sign, balanced_part}
+use Rattle.slicc_ast.specs.Prelude.{balanced_row, balanced_list, Outline, node, Parts, part, shape_of, shape_in}
+use Rattle.slicc_same.specs.Prelude.{alike_in, alike_kind, all_alike, same_parts, alike_part}
 use Rattle.slicc_same.proofs.Bools.{and_true, and_false}
 
 pub list_of_row : (n : _) (row : Row_of-Part n) → balanced_row row ≡ balanced_list (items-the_row-Part n row)

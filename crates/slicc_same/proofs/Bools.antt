@@ -1,6 +1,6 @@
 -- Rows of Booleans that are joined by `and`, in another grouping.
 use Rattle.std.proofs.Common.{◌≡◌, ◌&&◌, Bool, true, false, List, refl, sym, ap, ◌∙◌}
-use Rattle.slicc_same.specs.Alike.{all_alike}
+use Rattle.slicc_same.specs.Prelude.{all_alike}
 
 pub and_true : (a : Bool) → a && true ≡ a
 and_true true = refl

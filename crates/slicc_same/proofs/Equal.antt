@@ -5,11 +5,12 @@ use Rattle.std.proofs.lemmas.Bool.Decides.{Decides-eqb, Decides-int_eq}
 use Rattle.std.proofs.lemmas.Cmp.{int_eq_equiv, nat_eq_equiv, nat_list_eq_equiv}
 use Rattle.std.proofs.lemmas.Slice.Eq.{bytes_eq-Decides}
 use Rattle.slicc_ast.specs.declared.tree.token.TokenKind.{TokenKind}
-use Rattle.slicc_ast.specs.declared.tree.token.TokenKind.TheVariants.{Name as Named, Number, Quoted, Word, Sign, End}
+use Rattle.slicc_ast.specs.declared.tree.token.TokenKind.TheVariants.{Name, Number, Quoted, Word, Sign, End}
 use Rattle.slicc_ast.specs.declared.tree.token.Word.{Word as Reserved}
 use Rattle.slicc_ast.specs.declared.tree.token.Sign.{Sign as SignKind}
-use Rattle.slicc_ast.specs.Outline.{Outline, node, Parts, none, token, part, provided, no_span, shape_of, shape_in}
-use Rattle.slicc_same.specs.Alike.{alike, alike_in, alike_kind, same_shape, sign_number, word_number}
+use Rattle.slicc_ast.specs.Outline.{token}
+use Rattle.slicc_ast.specs.Prelude.{Outline, node, Parts, none, part, provided, no_span, shape_of, shape_in}
+use Rattle.slicc_same.specs.Prelude.{alike, alike_in, alike_kind, same_shape, sign_number, word_number}
 
 same_word : (a b : Reserved) → word_number a ≡ word_number b → a ≡ b
 same_word a b is = search rules
@@ -18,7 +19,7 @@ same_sign : (a b : SignKind) → sign_number a ≡ sign_number b → a ≡ b
 same_sign a b is = search rules
 
 equal_kinds : (a b : TokenKind) → alike_kind a b ≡ true → a ≡ b
-equal_kinds (Named a) (Named b) is = ap Named ((bytes_eq-Decides a b).0 is)
+equal_kinds (Name a) (Name b) is = ap Name ((bytes_eq-Decides a b).0 is)
 equal_kinds (Number a) (Number b) is = ap Number ((Decides-int_eq a b).0 is)
 equal_kinds (Quoted a) (Quoted b) is = ap Quoted ((bytes_eq-Decides a b).0 is)
 equal_kinds (Word a) (Word b) is = ap Word (same_word a b ((Decides-eqb (word_number a) (word_number b)).0 is))
@@ -52,7 +53,7 @@ mutual
   shape_in_again (provided condition parts) = shape_in_again parts
 
 kind_itself : (a : TokenKind) → alike_kind a a ≡ true
-kind_itself (Named a) = nat_list_eq_equiv.refl a
+kind_itself (Name a) = nat_list_eq_equiv.refl a
 kind_itself (Number a) = int_eq_equiv.refl a
 kind_itself (Quoted a) = nat_list_eq_equiv.refl a
 kind_itself (Word a) = nat_eq_equiv.refl (word_number a)

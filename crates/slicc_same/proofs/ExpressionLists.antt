@@ -3,9 +3,8 @@ use Rattle.std.proofs.Common.{rules, ◌≡◌, ◌==◌, ◌&&◌, ℕ, Bool, t
 use Rattle.slicc_ast.specs.declared.tree.expression.Expr.{Expr}
 use Rattle.slicc_ast.specs.declared.tree.expression.Operand.{Operand}
 use Rattle.slicc_ast.specs.declared.tree.expression.Suffix.{Suffix}
-use Rattle.slicc_ast.specs.Expressions.{args_list, more_args, operand_list, suffix_list}
-use Rattle.slicc_same.specs.Alike.{all_alike, same_parts}
-use Rattle.slicc_same.specs.AlikeItems.{alike_expr, alike_operand, alike_suffix}
+use Rattle.slicc_ast.specs.Prelude.{args_list, more_args, operand_list, suffix_list}
+use Rattle.slicc_same.specs.Prelude.{all_alike, same_parts, alike_expr, alike_operand, alike_suffix}
 
 more_args_alike : (xs ys : List Expr) → same_parts (more_args xs) (more_args ys) ≡ all_alike alike_expr xs ys
 more_args_alike [] [] = refl

@@ -6,11 +6,10 @@ use Rattle.slicc_ast.specs.declared.tree.declaration.Pair.{Pair}
 use Rattle.slicc_ast.specs.declared.tree.declaration.State.{State}
 use Rattle.slicc_ast.specs.declared.tree.declaration.Symbol.{Symbol}
 use Rattle.slicc_ast.specs.declared.tree.token.Sign.TheVariants.{CloseBrace}
-use Rattle.slicc_ast.specs.Outline.{none}
+use Rattle.slicc_ast.specs.Prelude.{none, pair_list, more_formals, formal_list, symbol_list, state_list, member_list}
 use Rattle.slicc_ast.specs.Names.{sign}
-use Rattle.slicc_ast.specs.Declarations.{pair, pair_list, formal, more_formals, formal_list, symbol_list, state_list, member, member_list}
-use Rattle.slicc_same.specs.Alike.{all_alike, same_parts, same_shape}
-use Rattle.slicc_same.specs.AlikeItems.{alike_name, alike_state, alike_symbol}
+use Rattle.slicc_ast.specs.Declarations.{pair, formal, member}
+use Rattle.slicc_same.specs.Prelude.{all_alike, same_parts, same_shape, alike_name, alike_state, alike_symbol}
 
 pub pairs_alike : (xs ys : List Pair) → same_parts (pair_list xs) (pair_list ys) ≡ all_alike (λ a b. same_shape (pair a) (pair b)) xs ys
 pairs_alike [] [] = refl

@@ -8,14 +8,14 @@ use Rattle.slicc_ast.specs.declared.tree.machine.Names.{Names}
 use Rattle.slicc_ast.specs.declared.tree.machine.Names.TheVariants.{One, Several}
 use Rattle.slicc_ast.specs.declared.tree.name.Name.{Name}
 use Rattle.slicc_ast.specs.declared.tree.statement.Block.{Block}
-use Rattle.slicc_ast.specs.declared.tree.token.TokenKind.TheVariants.{Sign as SignToken}
+use Rattle.slicc_ast.specs.declared.tree.token.TokenKind.TheVariants.{Sign}
 use Rattle.slicc_ast.specs.declared.tree.token.Sign.TheVariants.{OpenBrace, CloseBrace}
-use Rattle.slicc_ast.specs.Outline.{Outline, Parts, none, token, part, shape_in}
+use Rattle.slicc_ast.specs.Outline.{token}
+use Rattle.slicc_ast.specs.Prelude.{Outline, Parts, none, part, shape_in, action_list, decl, decl_list, function_body, more_names, name_list, next_parts, parameter_list, item_list, protocol_parts}
 use Rattle.slicc_ast.specs.Names.{sign}
-use Rattle.slicc_ast.specs.Machines.{action_list, decl, decl_list, function_body, more_names, name_list, names, next_parts, parameter, parameter_list}
-use Rattle.slicc_ast.specs.Trees.{item, item_list, protocol_parts}
-use Rattle.slicc_same.specs.Alike.{alike_in, all_alike, same_parts, same_shape}
-use Rattle.slicc_same.specs.AlikeItems.{alike_name}
+use Rattle.slicc_ast.specs.Machines.{names, parameter}
+use Rattle.slicc_ast.specs.Trees.{item}
+use Rattle.slicc_same.specs.Prelude.{alike_in, all_alike, same_parts, same_shape, alike_name}
 use Rattle.slicc_same.proofs.Bools.{and_grouped}
 
 name_step : (a r s : Bool) → r ≡ s → (a && true) && r ≡ a && s
@@ -87,6 +87,6 @@ protocol_behind (Some a) None xs (y ∷ ys) = refl
 protocol_behind (Some a) (Some b) xs ys = single (bytes_eq a b) (same_parts (item_list xs) (item_list ys))
 
 -- a body is no brace
-pub body_brace : (b : Option Block) (p : Parts) → alike_in (shape_in (function_body b)) (token (SignToken OpenBrace) p) ≡ false
+pub body_brace : (b : Option Block) (p : Parts) → alike_in (shape_in (function_body b)) (token (Sign OpenBrace) p) ≡ false
 body_brace None p = refl
 body_brace (Some b) p = refl

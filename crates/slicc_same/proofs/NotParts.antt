@@ -6,7 +6,7 @@ use Rattle.slicc_ast.specs.declared.tree.balanced.Part.TheOpen as layer
 use Rattle.slicc_ast.specs.declared.tree.balanced.Part.TheVariants.{Token, Parentheses, Brackets, Braces}
 use Rattle.slicc_ast.specs.declared.tree.balanced.Part.TheViews.{out-Part, roll-Part, roll-out-Part, rolls-Token, rolls-Parentheses, rolls-Brackets, rolls-Braces}
 use Rattle.slicc_ast.specs.declared.tree.token.TokenKind.{TokenKind}
-use Rattle.slicc_same.specs.AlikeItems.{alike_part}
+use Rattle.slicc_same.specs.Prelude.{alike_part}
 use Rattle.slicc_same.proofs.Bools.{and_false}
 
 data PartIs : Part → Type 0 where

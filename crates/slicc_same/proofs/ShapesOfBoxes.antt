@@ -10,9 +10,8 @@ use Rattle.slicc_ast.specs.declared.tree.expression.Expr.TheViews.{the_lemmas}
 use Rattle.slicc_ast.specs.declared.tree.token.Sign.TheVariants.{OpenParenthesis, CloseParenthesis, Comma, Minus, Not}
 use Rattle.slicc_ast.specs.declared.tree.token.Word.TheVariants.{IsValid, IsInvalid, StaticCast}
 use Rattle.slicc_ast.proofs.Boxes.{Operation_is, Postfix_is, Not_is, Negate_is, IsValid_is, IsInvalid_is, Cast_is, Group_is}
-use Rattle.slicc_ast.specs.Expressions.{expr, list_level, mode_parts, operand_list, suffix_list}
-use Rattle.slicc_ast.specs.Names.{sign, type_name, word}
-use Rattle.slicc_ast.specs.Outline.{node, none, no_span, part, shape_of, shape_in}
+use Rattle.slicc_ast.specs.Prelude.{expr, list_level, mode_parts, operand_list, suffix_list, type_name, node, none, no_span, part, shape_of, shape_in}
+use Rattle.slicc_ast.specs.Names.{sign, word}
 use Rattle.slicc_ast.proofs.RowsOfExpressions.{level_of_row, operands_of_row, suffixes_of_row}
 
 pub shape_of_Not : (e : Expr) (span : Span) → shape_of (expr (views.Not e span)) ≡ node no_span (sign Not (part (shape_of (expr e)) none))

@@ -9,12 +9,9 @@ use Rattle.slicc_ast.specs.declared.tree.statement.Stmt.{Stmt, Row_of-Stmt, end_
 use Rattle.slicc_ast.specs.declared.tree.statement.Stmt.TheViews.{the_lemmas}
 use Rattle.slicc_ast.specs.declared.tree.token.Sign.TheVariants.{OpenParenthesis, CloseParenthesis}
 use Rattle.slicc_ast.specs.declared.tree.token.Word.TheVariants.{Else, If as IfWord}
-use Rattle.slicc_ast.specs.Expressions.{expr}
+use Rattle.slicc_ast.specs.Prelude.{expr, Outline, node, Parts, none, part, block_end, block_part, else_if_row, if_outline, print_word, stmt, stmt_list, stmt_row}
 use Rattle.slicc_ast.specs.Names.{sign, word}
-use Rattle.slicc_ast.specs.Outline.{Outline, node, Parts, none, part}
-use Rattle.slicc_ast.specs.Statements.{block_end, block_part, else_if_row, if_outline, print_word, stmt, stmt_list, stmt_row}
-use Rattle.slicc_same.specs.Alike.{all_alike, same_parts, same_shape, word_number}
-use Rattle.slicc_same.specs.AlikeItems.{alike_else, alike_else_if, alike_stmt}
+use Rattle.slicc_same.specs.Prelude.{all_alike, same_parts, same_shape, word_number, alike_else, alike_else_if, alike_stmt}
 
 pub statements_alike : (xs ys : List Stmt) → same_parts (stmt_list xs block_end) (stmt_list ys block_end) ≡ all_alike alike_stmt xs ys
 statements_alike [] [] = refl

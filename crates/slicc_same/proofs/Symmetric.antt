@@ -2,12 +2,13 @@
 use Rattle.std.proofs.Common.{◌≡◌, ◌&&◌, refl, ap, ◌∙◌}
 use Rattle.std.proofs.lemmas.Cmp.{int_eq_equiv, nat_eq_equiv, nat_list_eq_equiv}
 use Rattle.slicc_ast.specs.declared.tree.token.TokenKind.{TokenKind}
-use Rattle.slicc_ast.specs.declared.tree.token.TokenKind.TheVariants.{Name as Named, Number, Quoted, Word, Sign, End}
-use Rattle.slicc_ast.specs.Outline.{Outline, node, Parts, none, token, part, provided}
-use Rattle.slicc_same.specs.Alike.{alike, alike_in, alike_kind, sign_number, word_number}
+use Rattle.slicc_ast.specs.declared.tree.token.TokenKind.TheVariants.{Name, Number, Quoted, Word, Sign, End}
+use Rattle.slicc_ast.specs.Outline.{token}
+use Rattle.slicc_ast.specs.Prelude.{Outline, node, Parts, none, part, provided}
+use Rattle.slicc_same.specs.Prelude.{alike, alike_in, alike_kind, sign_number, word_number}
 
 kind_symmetric : (a b : TokenKind) → alike_kind a b ≡ alike_kind b a
-kind_symmetric (Named a) (Named b) = nat_list_eq_equiv.symm a b
+kind_symmetric (Name a) (Name b) = nat_list_eq_equiv.symm a b
 kind_symmetric (Number a) (Number b) = int_eq_equiv.symm a b
 kind_symmetric (Quoted a) (Quoted b) = nat_list_eq_equiv.symm a b
 kind_symmetric (Word a) (Word b) = nat_eq_equiv.symm (word_number a) (word_number b)

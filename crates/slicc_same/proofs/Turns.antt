@@ -2,7 +2,7 @@
 use Rattle.std.proofs.Common.{◌≡◌, ◌==◌, ◌&&◌, ◌∙◌, ◌+◌, ◌-◌, ◌<◌, ◌≤◌, ℕ, Bool, true, false, List, [], ◌∷◌, length, suc, get_or, drop, take, add-one, sym, ap, arith, rules}
 use Rattle.std.proofs.Math.Seq.{drop-cons}
 use Rattle.std.proofs.lemmas.List.{drop_all, take_all}
-use Rattle.slicc_same.specs.Alike.{all_alike}
+use Rattle.slicc_same.specs.Prelude.{all_alike}
 
 -- with the items in hand before the rest
 opened : {A : Type 0} (one : A → A → Bool) (xs zs : List A) (i : ℕ) (x y z : A) (whole : Bool)

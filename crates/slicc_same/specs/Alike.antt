@@ -4,12 +4,13 @@ use Rattle.std.specs.Prelude.{◌==◌, ◌&&◌, ℕ, Bool, true, false, List, 
 use Rattle.std.specs.Ordering.{int_eq}
 use Rattle.std.specs.Str.{bytes_eq}
 use Rattle.slicc_ast.specs.declared.tree.token.TokenKind.{TokenKind}
-use Rattle.slicc_ast.specs.declared.tree.token.TokenKind.TheVariants.{Name as Named, Number, Quoted, Word, Sign, End}
+use Rattle.slicc_ast.specs.declared.tree.token.TokenKind.TheVariants.{Name, Number, Quoted, Word, Sign, End}
 use Rattle.slicc_ast.specs.declared.tree.token.Word.{Word as Reserved}
 use Rattle.slicc_ast.specs.declared.tree.token.Word.TheVariants.{Protocol, Include, Machine, Enumeration, StateDeclaration, Structure, InPort, OutPort, Action, Transition, Peek, Enqueue, StallAndWait, CheckAllocate, If, Else, Return, True, False, Ood, New, IsValid, IsInvalid, StaticCast, Error, Assert, Dprintf, AppendTransitionComment, While}
 use Rattle.slicc_ast.specs.declared.tree.token.Sign.{Sign as SignKind}
 use Rattle.slicc_ast.specs.declared.tree.token.Sign.TheVariants.{OpenBrace, CloseBrace, OpenParenthesis, CloseParenthesis, OpenBracket, CloseBracket, Semicolon, Colon, Comma, Dot, Equals, Assign, Equal, Unequal, Less, Greater, LessOrEqual, GreaterOrEqual, Plus, Minus, Star, Not, And, Or}
-use Rattle.slicc_ast.specs.Outline.{Outline, node, Parts, none, token, part, shape_of, shape_in}
+use Rattle.slicc_ast.specs.Outline.{token}
+use Rattle.slicc_ast.specs.Prelude.{Outline, node, Parts, none, part, shape_of, shape_in}
 
 abbrev pub word_number : Reserved → ℕ
 word_number Protocol = 0
@@ -69,7 +70,7 @@ sign_number And = 22
 sign_number Or = 23
 
 abbrev pub alike_kind : TokenKind → TokenKind → Bool
-alike_kind (Named a) (Named b) = bytes_eq a b
+alike_kind (Name a) (Name b) = bytes_eq a b
 alike_kind (Number a) (Number b) = int_eq a b
 alike_kind (Quoted a) (Quoted b) = bytes_eq a b
 alike_kind (Word a) (Word b) = word_number a == word_number b

@@ -11,11 +11,9 @@ use Rattle.slicc_ast.specs.declared.tree.name.Name.{Name}
 use Rattle.slicc_ast.specs.declared.tree.statement.ElseIf.{ElseIf}
 use Rattle.slicc_ast.specs.declared.tree.statement.Block.{Block}
 use Rattle.slicc_ast.specs.declared.tree.statement.Stmt.{Stmt}
-use Rattle.slicc_ast.specs.Outline.{none}
+use Rattle.slicc_ast.specs.Prelude.{none, pair_list, expr, operator_sign, block_end, stmt, stmt_list}
 use Rattle.slicc_ast.specs.Names.{balanced_part}
-use Rattle.slicc_ast.specs.Declarations.{pair_list}
-use Rattle.slicc_ast.specs.Expressions.{expr, operator_sign, suffix}
-use Rattle.slicc_ast.specs.Statements.{block_end, stmt, stmt_list}
+use Rattle.slicc_ast.specs.Expressions.{suffix}
 use Rattle.slicc_same.specs.Alike.{same_parts, same_shape, sign_number}
 
 abbrev pub alike_part : Part → Part → Bool

@@ -1,8 +1,7 @@
 //! Balanced parts.
 ghost use Rattle.std.specs.Prelude.{◌≡◌};
-ghost use Rattle.slicc_ast.specs.Names.{balanced_list};
-ghost use Rattle.slicc_same.specs.Alike.{all_alike, same_parts};
-ghost use Rattle.slicc_same.specs.AlikeItems.{alike_part};
+ghost use Rattle.slicc_ast.specs.Prelude.{balanced_list};
+ghost use Rattle.slicc_same.specs.Prelude.{all_alike, same_parts, alike_part};
 
 use crate::token::same_kind;
 use slicc_ast::tree::{Balanced, Part};

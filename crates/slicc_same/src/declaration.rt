@@ -1,7 +1,7 @@
 //! Declarations that have no statements in them.
 ghost use Rattle.std.specs.Prelude.{◌≡◌};
-ghost use Rattle.slicc_ast.specs.Declarations.{enumeration, formal, formal_list, member, optional_name, pair, pair_list, pair_value, skipped, states, structure};
-ghost use Rattle.slicc_ast.specs.Outline.{none};
+ghost use Rattle.slicc_ast.specs.Declarations.{enumeration, formal, member, pair, states, structure};
+ghost use Rattle.slicc_ast.specs.Prelude.{formal_list, optional_name, pair_list, pair_value, skipped, none};
 ghost use Rattle.slicc_same.specs.Alike.{same_parts, same_shape};
 ghost use Rattle.slicc_same.specs.AlikeItems.{alike_state, alike_symbol};
 

@@ -1,9 +1,8 @@
 //! Expressions.
 ghost use Rattle.std.specs.Prelude.{◌≡◌, ◌==◌};
-ghost use Rattle.slicc_ast.specs.Expressions.{args_list, expr, mode_parts, operator_sign, suffix};
-ghost use Rattle.slicc_ast.specs.Outline.{none};
-ghost use Rattle.slicc_same.specs.Alike.{all_alike, same_parts, same_shape, sign_number};
-ghost use Rattle.slicc_same.specs.AlikeItems.{alike_expr, alike_operand, alike_suffix};
+ghost use Rattle.slicc_ast.specs.Expressions.{suffix};
+ghost use Rattle.slicc_ast.specs.Prelude.{args_list, expr, mode_parts, operator_sign, none};
+ghost use Rattle.slicc_same.specs.Prelude.{all_alike, same_parts, same_shape, sign_number, alike_expr, alike_operand, alike_suffix};
 
 use crate::token::{same_name, same_text, same_type};
 use slicc_ast::Text;

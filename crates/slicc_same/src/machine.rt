@@ -1,7 +1,7 @@
 //! Machines and what is declared in them.
 ghost use Rattle.std.specs.Prelude.{◌≡◌};
-ghost use Rattle.slicc_ast.specs.Machines.{action, decl, function, function_body, in_port, literal_parts, machine, names, next_parts, object, out_port, parameter, transition};
-ghost use Rattle.slicc_ast.specs.Outline.{none};
+ghost use Rattle.slicc_ast.specs.Machines.{action, in_port, machine, names, out_port, parameter, transition};
+ghost use Rattle.slicc_ast.specs.Prelude.{decl, function, function_body, literal_parts, next_parts, object, none};
 ghost use Rattle.slicc_same.specs.Alike.{same_parts, same_shape};
 ghost use Rattle.slicc_same.specs.AlikeItems.{alike_name};
 

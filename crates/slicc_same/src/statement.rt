@@ -1,9 +1,7 @@
 //! Statements and blocks.
 ghost use Rattle.std.specs.Prelude.{◌≡◌, ◌==◌};
-ghost use Rattle.slicc_ast.specs.Outline.{none};
-ghost use Rattle.slicc_ast.specs.Statements.{block_end, if_outline, optional_expr, print_word, stmt, stmt_list};
-ghost use Rattle.slicc_same.specs.Alike.{all_alike, same_parts, same_shape, word_number};
-ghost use Rattle.slicc_same.specs.AlikeItems.{alike_else, alike_else_if, alike_stmt};
+ghost use Rattle.slicc_ast.specs.Prelude.{none, block_end, if_outline, optional_expr, print_word, stmt, stmt_list};
+ghost use Rattle.slicc_same.specs.Prelude.{all_alike, same_parts, same_shape, word_number, alike_else, alike_else_if, alike_stmt};
 
 use crate::balanced::same_balanced;
 use crate::declaration::same_pairs;

@@ -1,7 +1,7 @@
 //! Tokens and names.
 ghost use Rattle.std.specs.Prelude.{◌≡◌, ◌==◌};
 ghost use Rattle.std.specs.Str.{bytes_eq};
-ghost use Rattle.slicc_same.specs.Alike.{alike_kind, sign_number, word_number};
+ghost use Rattle.slicc_same.specs.Prelude.{alike_kind, sign_number, word_number};
 
 use slicc_ast::Text;
 use slicc_ast::tree::{Name, Sign, TokenKind, TypeName, Word};

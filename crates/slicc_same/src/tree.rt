@@ -1,7 +1,7 @@
 //! Whole files.
 ghost use Rattle.std.specs.Prelude.{◌≡◌, ◌↔◌, true};
-ghost use Rattle.slicc_ast.specs.Outline.{none, shape_of};
-ghost use Rattle.slicc_ast.specs.Trees.{item, protocol_parts, tree};
+ghost use Rattle.slicc_ast.specs.Prelude.{none, shape_of, protocol_parts, tree};
+ghost use Rattle.slicc_ast.specs.Trees.{item};
 ghost use Rattle.slicc_same.specs.Alike.{same_parts, same_shape};
 
 use crate::declaration::{same_enumeration, same_structure};

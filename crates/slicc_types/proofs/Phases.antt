@@ -3,14 +3,9 @@ use Rattle.std.proofs.Common.{◌≡◌, Option, None, Some, Ok, Err, List, []}
 use Rattle.slicc_ast.specs.declared.tree.item.Tree.{Tree}
 use Rattle.slicc_plan.specs.declared.broken.Broken.{Broken}
 use Rattle.slicc_plan.specs.declared.row.Counts.{Counts}
-use Rattle.slicc_plan.specs.AllRules.{of_bodies, of_declarations, of_machines}
-use Rattle.slicc_plan.specs.BrokenBodies.{broken_bodies}
-use Rattle.slicc_plan.specs.BrokenDeclarations.{broken_declarations}
-use Rattle.slicc_plan.specs.BrokenMachines.{broken_machines}
-use Rattle.slicc_plan.specs.Counts.{counts_of}
-use Rattle.slicc_plan.specs.Order.{first_of}
+use Rattle.slicc_plan.specs.Prelude.{of_bodies, of_declarations, of_machines, broken_bodies, broken_declarations, broken_machines, counts_of, first_of}
 use Rattle.slicc_names.proofs.FirstOfAll.{is_none, is_some}
-use Rattle.slicc_types.specs.Judged.{IsJudged}
+use Rattle.slicc_types.specs.Prelude.{IsJudged}
 
 pub told_by_declarations : (trees : List Tree) (first : Option Broken) (b : Broken) → first ≡ first_of (broken_declarations trees) → first ≡ Some b → IsJudged trees (Err b)
 told_by_declarations trees first b same some = of_declarations (is_some (broken_declarations trees) first b same some)

@@ -2,13 +2,8 @@
 use Rattle.std.proofs.Common.{◌≡◌, ◌++◌, Option, None, Some, List, [], ◌∷◌, refl, ap, ◌∙◌}
 use Rattle.slicc_ast.specs.declared.tree.item.Tree.{Tree}
 use Rattle.slicc_plan.specs.declared.broken.Broken.{Broken}
-use Rattle.slicc_plan.specs.BrokenMachines.{broken_machines}
-use Rattle.slicc_plan.specs.MachineParts.{missing_machine, missing_parts}
-use Rattle.slicc_plan.specs.Networks.{wrong_networks}
-use Rattle.slicc_plan.specs.Order.{earlier_of, first_after}
-use Rattle.slicc_plan.specs.StateFunctions.{wrong_state_functions}
-use Rattle.slicc_plan.specs.TwoTransitions.{shared_pairs}
-use Rattle.slicc_flow.specs.Flows.{broken_flow}
+use Rattle.slicc_plan.specs.Prelude.{broken_machines, missing_machine, missing_parts, wrong_networks, earlier_of, first_after, wrong_state_functions, shared_pairs}
+use Rattle.slicc_flow.specs.Prelude.{broken_flow}
 
 none_first : (bs cs : List Broken) → bs ++ cs ≡ [] → bs ≡ []
 none_first [] cs e = refl

@@ -4,9 +4,7 @@ use Rattle.std.specs.Prelude.{◌≡◌, Result, Ok, Err, List}
 use Rattle.slicc_ast.specs.declared.tree.item.Tree.{Tree}
 use Rattle.slicc_plan.specs.declared.broken.Broken.{Broken}
 use Rattle.slicc_plan.specs.declared.row.Counts.{Counts}
-use Rattle.slicc_plan.specs.AllRules.{IsAccepted, IsToldOf}
-use Rattle.slicc_plan.specs.Counts.{counts_of}
-use Rattle.slicc_plan.specs.SymbolsOf.{symbols_of}
+use Rattle.slicc_plan.specs.Prelude.{IsAccepted, IsToldOf, counts_of, symbols_of}
 use Rattle.slicc_types.specs.declared.resolving.Kept.{Kept}
 
 -- the protocol keeps all rules, and has so much

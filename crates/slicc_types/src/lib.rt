@@ -2,7 +2,6 @@
 //! three phases, those of declarations, of bodies and of machines.
 #![tactic(auto)]
 
-mod counting;
 mod machines;
 mod resolving;
 

@@ -1,13 +1,12 @@
 //! What is broken in the machines of a protocol.
-ghost use Rattle.std.specs.Prelude.{◌≡◌, [], IfOk};
-ghost use Rattle.slicc_plan.specs.BrokenMachines.{broken_machines as broken_machines_of};
-ghost use Rattle.slicc_plan.specs.Counts.{counts_of};
-ghost use Rattle.slicc_plan.specs.Order.{first_of};
+ghost use Rattle.std.specs.Prelude.{◌≡◌, [], IfOk, None};
+ghost use Rattle.slicc_plan.specs.Prelude.{broken_machines, counts_of, first_of, first_after, shared_pairs};
 
-use crate::counting::shared_or_counted;
 use declared_types::Scopes;
 use machine_rules::{machine_parts, networks, state_functions};
+use machine_table::{counts, tabulate};
 use ruby_base::NoMemory;
+use slicc_ast::tree::Tree;
 use slicc_flow::flow_broken;
 use slicc_plan::{Broken, Counts};
 use std::alloc::Global;
@@ -18,8 +17,8 @@ pub fn broken_machines(
     alloc: Global,
     scopes: &Scopes<'_>,
 ) -> Result<(Option<Broken>, Counts), NoMemory>
-    ensures first { IfOk result (λ r. r.0 ≡ first_of (broken_machines_of scopes.now.trees.now)) }
-    ensures counts { IfOk result (λ r. broken_machines_of scopes.now.trees.now ≡ [] → r.1 ≡ counts_of scopes.now.trees.now) }
+    ensures first { IfOk result (λ r. r.0 ≡ first_of (broken_machines scopes.now.trees.now)) }
+    ensures counts { IfOk result (λ r. broken_machines scopes.now.trees.now ≡ [] → r.1 ≡ counts_of scopes.now.trees.now) }
 {
     let first = flow_broken(alloc, None, scopes)?;
     let (first, counts) = shared_or_counted(alloc, first, scopes.trees)?;
@@ -27,4 +26,32 @@ pub fn broken_machines(
     let first = networks(alloc, first, scopes)?;
     let first = machine_parts(alloc, first, scopes.trees)?;
     Ok((first, counts))
+}
+
+/// Of the transitions that share a pair with an earlier one of their machine, and of what was found before, the one that is told;
+/// and where there is none, how many machines, states, events and pairs with a written transition a protocol has.
+pub fn shared_or_counted(
+    alloc: Global,
+    first: Option<Broken>,
+    trees: &[Tree],
+) -> Result<(Option<Broken>, Counts), NoMemory>
+    ensures first { IfOk result (λ r. r.0 ≡ first_after first (shared_pairs trees.now)) }
+    ensures counts { IfOk result (λ r. first ≡ None → shared_pairs trees.now ≡ [] → r.1 ≡ counts_of trees.now) }
+{
+    let (found, tables) = tabulate(alloc, first, trees)?;
+    match found {
+        Some(b) => Ok((
+            Some(b),
+            Counts {
+                machines: 0,
+                states: 0,
+                events: 0,
+                pairs: 0,
+            },
+        )),
+        None => {
+            let counts = counts(alloc, trees, &tables)?;
+            Ok((None, counts))
+        }
+    }
 }

@@ -1,8 +1,6 @@
 //! The plan of a protocol, or the first of all rules that it breaks.
 ghost use Rattle.std.specs.Prelude.{◌≡◌, [], IfOk, MatchResult};
-ghost use Rattle.slicc_plan.specs.AllRules.{IsPlanOf};
-ghost use Rattle.slicc_plan.specs.BrokenBodies.{broken_bodies};
-ghost use Rattle.slicc_plan.specs.BrokenDeclarations.{broken_declarations};
+ghost use Rattle.slicc_plan.specs.Prelude.{IsPlanOf, broken_bodies, broken_declarations};
 ghost use Rattle.slicc_types.specs.Judged.{IsCounted, IsJudged, IsKept, IsResolved};
 
 use crate::machines::broken_machines;

@@ -13,12 +13,11 @@ use Rattle.std.specs.FinMap as map
 use Rattle.std.specs.declared.vec.Vec.{Vec}
 use Rattle.std.specs.declared.alloc.Global.{Global}
 use Rattle.ruby_value.specs.declared.message.Message.{Message}
-use Rattle.ruby_value.specs.IsBefore.{IsBefore}
+use Rattle.ruby_value.specs.Prelude.{IsBefore}
 use Rattle.ruby_value.proofs.Ordered.{AllPairs-nil}
 use Rattle.stall_map.specs.declared.lane.Lane.{Lane}
 use Rattle.stall_map.specs.declared.stalled.Stalled.{Stalled}
-use Rattle.stall_map.specs.Prepared.{Holds, IsPrepared, IsWide, Serves, ServesAll, count_of}
-use Rattle.stall_map.specs.Stalls.{Ascends, is_under, without_line}
+use Rattle.stall_map.specs.Prelude.{Holds, IsPrepared, IsWide, Serves, ServesAll, count_of, Ascends, is_under, without_line}
 use Rattle.stall_map.proofs.Placed.{filter-all, filter-none}
 
 cond-length : {X : Type 0} (b : Bool) (x : X) (xs : List X) → length (cond b (x ∷ xs) xs) ≡ length xs + cond b 1 0

@@ -5,12 +5,11 @@ use Rattle.std.proofs.lemmas.List.Elements.{All-tail}
 use Rattle.std.specs.List.{All, filter, slice_get}
 use Rattle.std.specs.List.Sorted.{IsPartitionPoint, IsPartitionedBy}
 use Rattle.ruby_value.specs.declared.message.MsgNo.{MsgNo}
-use Rattle.ruby_value.specs.IsBefore.{IsBefore}
-use Rattle.ruby_value.specs.NumberBefore.{number_before}
+use Rattle.ruby_value.specs.Prelude.{IsBefore, number_before}
 use Rattle.ruby_value.proofs.Fronts.{number-comes}
 use Rattle.ruby_value.proofs.Ordered.{AllPairs-insert}
 use Rattle.stall_map.specs.declared.stalled.Stalled.{Stalled}
-use Rattle.stall_map.specs.Stalls.{Ascends, IsNew, comes_before, is_above, next_after, with_stalled}
+use Rattle.stall_map.specs.Prelude.{Ascends, IsNew, comes_before, is_above, next_after, with_stalled}
 use Rattle.stall_map.proofs.Placed.{IsPlace}
 
 before-is : (a b : MsgNo) → IsBefore a b → number_before a b ≡ true

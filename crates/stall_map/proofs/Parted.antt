@@ -6,7 +6,7 @@ use Rattle.std.proofs.lemmas.List.Elements.{filter-append}
 use Rattle.std.specs.List.{filter}
 use Rattle.ruby_value.specs.declared.message.Message.{Message}
 use Rattle.stall_map.specs.declared.stalled.Stalled.{Stalled}
-use Rattle.stall_map.specs.Stalls.{is_under, messages_of, messages_under, without_line}
+use Rattle.stall_map.specs.Prelude.{is_under, messages_of, messages_under, without_line}
 
 pub record IsParted (line : ℕ) (old items : List Stalled) (woken : List Message) (left : ℕ) : Type 0 where
   pub done : List Stalled

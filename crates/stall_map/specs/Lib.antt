@@ -1,2 +1,3 @@
 pub mod Prepared
 pub mod Stalls
+pub mod Prelude

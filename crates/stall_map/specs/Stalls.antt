@@ -4,9 +4,7 @@ use Rattle.std.specs.Prelude.{◌≡◌, ◌≢◌, ℕ, Bool, true, Option, Non
 use Rattle.std.specs.List.{All, AllPairs, filter}
 use Rattle.ruby_value.specs.declared.message.Message.{Message}
 use Rattle.ruby_value.specs.declared.message.MsgNo.{MsgNo}
-use Rattle.ruby_value.specs.Inserted.{inserted}
-use Rattle.ruby_value.specs.IsBefore.{IsBefore}
-use Rattle.ruby_value.specs.NumberBefore.{number_before}
+use Rattle.ruby_value.specs.Prelude.{inserted, IsBefore, number_before}
 use Rattle.stall_map.specs.declared.stalled.Stalled.{Stalled}
 
 abbrev pub comes_before : Stalled → Stalled → Bool

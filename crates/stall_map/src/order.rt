@@ -1,7 +1,7 @@
 // Messages that wait, in the order of their numbers.
 ghost use Rattle.std.specs.Prelude.{◌≡◌, ◌≤◌, [], length, filter, vec_capacity};
 ghost use Rattle.std.specs.VecDeque.{deque_len, deque_capacity};
-ghost use Rattle.stall_map.specs.Stalls.{Ascends, IsNew, IsPlaceOf, is_under, messages_under, without_line};
+ghost use Rattle.stall_map.specs.Prelude.{Ascends, IsNew, IsPlaceOf, is_under, messages_under, without_line};
 
 use crate::{Message, MsgNo, Stalled};
 use std::collections::VecDeque;

@@ -27,12 +27,12 @@ impl Model for StallMap {
     ghost use Rattle.std.specs.Prelude.{List, ◌-◌};
     ghost use Rattle.std.specs.Coded.{coded_list};
     ghost use Rattle.std.specs.VecDeque.{deque_len, deque_capacity};
-    ghost use Rattle.ruby_value.specs.Roomy.{Roomy, roomy_code};
-    ghost use Rattle.stall_map.specs.declared.stalled.Stalled.{Stalled as StalledRecord};
+    ghost use Rattle.ruby_value.specs.Prelude.{Roomy, roomy_code};
+    ghost use Rattle.stall_map.specs.declared.stalled.Stalled.{Stalled};
     ghost use Rattle.stall_map.specs.contracts.stalled.Stalled as row;
     ghost use Rattle.stall_map.specs.Prepared.{IsPrepared};
 
-    ghost Value = { Roomy (List StalledRecord) };
+    ghost Value = { Roomy (List Stalled) };
 
     ghost coded = { roomy_code (coded_list row.the_row.coded) };
 

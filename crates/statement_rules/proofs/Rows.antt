@@ -11,14 +11,10 @@ use Rattle.slicc_ast.specs.declared.tree.statement.If.{If, If', None', Some', Ro
 use Rattle.slicc_ast.specs.declared.tree.statement.Stmt.{Stmt, Peek, Enqueue, Row_of-Stmt, end_of-Stmt, more_of-Stmt, items-the_row-Stmt}
 use Rattle.slicc_ast.specs.declared.tree.statement.Stmt.TheViews.{the_lemmas}
 use Rattle.slicc_plan.specs.declared.broken.Broken.{Broken}
-use Rattle.slicc_plan.specs.declared.built_in.BuiltInType.TheVariants.{Bool as Boolean}
-use Rattle.slicc_plan.specs.Environment.{Environment}
-use Rattle.slicc_plan.specs.ExpressionTypes.{broken_where}
-use Rattle.slicc_plan.specs.JudgedStatements.{after, enqueued, if_judged, in_enqueue, in_peek, judged, others_judged, otherwise_judged, peeked, row_judged, statements_judged}
-use Rattle.slicc_plan.specs.Meanings.{of_built_in}
-use Rattle.slicc_plan.specs.Order.{earlier_of_both, first_of}
+use Rattle.slicc_plan.specs.declared.built_in.BuiltInType.TheVariants.{Bool}
+use Rattle.slicc_plan.specs.Prelude.{Environment, broken_where, after, enqueued, if_judged, in_enqueue, in_peek, judged, others_judged, otherwise_judged, peeked, row_judged, statements_judged, of_built_in, earlier_of_both, first_of}
 use Rattle.slicc_plan.proofs.Firsts.{both-assoc_all, first_of-append}
-use Rattle.statement_rules.specs.Elses.{else_if_judged}
+use Rattle.statement_rules.specs.Prelude.{else_if_judged}
 
 pub judged_row : (env : Environment) (n : _) (row : Row_of-Stmt n) → row_judged env row ≡ statements_judged env (items-the_row-Stmt n row)
 judged_row env n end_of-Stmt = refl
@@ -51,7 +47,7 @@ abbrev pub else_judged : Environment → Option Block → List Broken
 else_judged env None = []
 else_judged env (Some b) = statements_judged env b.statements
 
-pub judged_if : (env : Environment) (i : If) → if_judged env i ≡ ((broken_where env (of_built_in Boolean) (out-If i).condition ++ statements_judged env (out-If i).then.statements) ++ flat_map (else_if_judged env) (out-If i).others) ++ else_judged env (out-If i).otherwise
+pub judged_if : (env : Environment) (i : If) → if_judged env i ≡ ((broken_where env (of_built_in Bool) (out-If i).condition ++ statements_judged env (out-If i).then.statements) ++ flat_map (else_if_judged env) (out-If i).others) ++ else_judged env (out-If i).otherwise
 judged_if env (If' condition shape row block n others None' span) =
     let i : If = If' condition shape row block n others None' span in
     let held = judged_row env _ row in
@@ -60,10 +56,10 @@ judged_if env (If' condition shape row block n others None' span) =
     let two : statements_judged env (out-If i).then.statements ≡ row_judged env row = search (rules, the_lemmas, held) in
     let three : flat_map (else_if_judged env) (out-If i).others ≡ others_judged env others = search (rules, the_lemmas, more) in
     let four : else_judged env (out-If i).otherwise ≡ [] = search (rules, the_lemmas) in
-    sym (ap (λ e. ((broken_where env (of_built_in Boolean) e ++ statements_judged env (out-If i).then.statements) ++ flat_map (else_if_judged env) (out-If i).others) ++ else_judged env (out-If i).otherwise) one
-    ∙ ap (λ bs. ((broken_where env (of_built_in Boolean) condition ++ bs) ++ flat_map (else_if_judged env) (out-If i).others) ++ else_judged env (out-If i).otherwise) two
-    ∙ ap (λ bs. ((broken_where env (of_built_in Boolean) condition ++ row_judged env row) ++ bs) ++ else_judged env (out-If i).otherwise) three
-    ∙ ap (λ bs. ((broken_where env (of_built_in Boolean) condition ++ row_judged env row) ++ others_judged env others) ++ bs) four)
+    sym (ap (λ e. ((broken_where env (of_built_in Bool) e ++ statements_judged env (out-If i).then.statements) ++ flat_map (else_if_judged env) (out-If i).others) ++ else_judged env (out-If i).otherwise) one
+    ∙ ap (λ bs. ((broken_where env (of_built_in Bool) condition ++ bs) ++ flat_map (else_if_judged env) (out-If i).others) ++ else_judged env (out-If i).otherwise) two
+    ∙ ap (λ bs. ((broken_where env (of_built_in Bool) condition ++ row_judged env row) ++ bs) ++ else_judged env (out-If i).otherwise) three
+    ∙ ap (λ bs. ((broken_where env (of_built_in Bool) condition ++ row_judged env row) ++ others_judged env others) ++ bs) four)
 judged_if env (If' condition shape row block n others (Some' s r b) span) =
     let i : If = If' condition shape row block n others (Some' s r b) span in
     let held = judged_row env _ row in
@@ -73,17 +69,17 @@ judged_if env (If' condition shape row block n others (Some' s r b) span) =
     let two : statements_judged env (out-If i).then.statements ≡ row_judged env row = search (rules, the_lemmas, held) in
     let three : flat_map (else_if_judged env) (out-If i).others ≡ others_judged env others = search (rules, the_lemmas, more) in
     let four : else_judged env (out-If i).otherwise ≡ row_judged env r = search (rules, the_lemmas, last) in
-    sym (ap (λ e. ((broken_where env (of_built_in Boolean) e ++ statements_judged env (out-If i).then.statements) ++ flat_map (else_if_judged env) (out-If i).others) ++ else_judged env (out-If i).otherwise) one
-    ∙ ap (λ bs. ((broken_where env (of_built_in Boolean) condition ++ bs) ++ flat_map (else_if_judged env) (out-If i).others) ++ else_judged env (out-If i).otherwise) two
-    ∙ ap (λ bs. ((broken_where env (of_built_in Boolean) condition ++ row_judged env row) ++ bs) ++ else_judged env (out-If i).otherwise) three
-    ∙ ap (λ bs. ((broken_where env (of_built_in Boolean) condition ++ row_judged env row) ++ others_judged env others) ++ bs) four)
+    sym (ap (λ e. ((broken_where env (of_built_in Bool) e ++ statements_judged env (out-If i).then.statements) ++ flat_map (else_if_judged env) (out-If i).others) ++ else_judged env (out-If i).otherwise) one
+    ∙ ap (λ bs. ((broken_where env (of_built_in Bool) condition ++ bs) ++ flat_map (else_if_judged env) (out-If i).others) ++ else_judged env (out-If i).otherwise) two
+    ∙ ap (λ bs. ((broken_where env (of_built_in Bool) condition ++ row_judged env row) ++ bs) ++ else_judged env (out-If i).otherwise) three
+    ∙ ap (λ bs. ((broken_where env (of_built_in Bool) condition ++ row_judged env row) ++ others_judged env others) ++ bs) four)
 
 pub ruleset rules_of_rows = (judged_row, judged_others, judged_if)
 
 -- The first in an `if`, where those of its arms are known.
 
 abbrev arms : Environment → If → Option Block → List Broken
-arms env i o = ((broken_where env (of_built_in Boolean) (out-If i).condition ++ statements_judged env (out-If i).then.statements) ++ flat_map (else_if_judged env) (out-If i).others) ++ else_judged env o
+arms env i o = ((broken_where env (of_built_in Bool) (out-If i).condition ++ statements_judged env (out-If i).then.statements) ++ flat_map (else_if_judged env) (out-If i).others) ++ else_judged env o
 
 first_of_four : (xs ys zs ws : List Broken) (p q r s : Option Broken) → p ≡ first_of xs → q ≡ first_of ys → r ≡ first_of zs → s ≡ first_of ws → earlier_of_both (earlier_of_both (earlier_of_both p q) r) s ≡ first_of (((xs ++ ys) ++ zs) ++ ws)
 first_of_four xs ys zs ws p q r s a b c d =
@@ -95,12 +91,12 @@ first_of_four xs ys zs ws p q r s a b c d =
     ∙ ap (earlier_of_both (first_of ((xs ++ ys) ++ zs))) d
     ∙ sym (first_of-append ((xs ++ ys) ++ zs) ws)
 
-pub if_some : (env : Environment) (i : If) (b : Block) (condition held others otherwise : Option Broken) → (out-If i).otherwise ≡ Some b → condition ≡ first_of (broken_where env (of_built_in Boolean) (out-If i).condition) → held ≡ first_of (statements_judged env (out-If i).then.statements) → others ≡ first_of (flat_map (else_if_judged env) (out-If i).others) → otherwise ≡ first_of (statements_judged env b.statements) → earlier_of_both (earlier_of_both (earlier_of_both condition held) others) otherwise ≡ first_of (if_judged env i)
+pub if_some : (env : Environment) (i : If) (b : Block) (condition held others otherwise : Option Broken) → (out-If i).otherwise ≡ Some b → condition ≡ first_of (broken_where env (of_built_in Bool) (out-If i).condition) → held ≡ first_of (statements_judged env (out-If i).then.statements) → others ≡ first_of (flat_map (else_if_judged env) (out-If i).others) → otherwise ≡ first_of (statements_judged env b.statements) → earlier_of_both (earlier_of_both (earlier_of_both condition held) others) otherwise ≡ first_of (if_judged env i)
 if_some env i b condition held others otherwise is one two more last =
-    first_of_four (broken_where env (of_built_in Boolean) (out-If i).condition) (statements_judged env (out-If i).then.statements) (flat_map (else_if_judged env) (out-If i).others) (statements_judged env b.statements) condition held others otherwise one two more last
+    first_of_four (broken_where env (of_built_in Bool) (out-If i).condition) (statements_judged env (out-If i).then.statements) (flat_map (else_if_judged env) (out-If i).others) (statements_judged env b.statements) condition held others otherwise one two more last
     ∙ ap (λ o. first_of (arms env i o)) (sym is) ∙ ap first_of (sym (judged_if env i))
 
-pub if_none : (env : Environment) (i : If) (condition held others : Option Broken) → (out-If i).otherwise ≡ None → condition ≡ first_of (broken_where env (of_built_in Boolean) (out-If i).condition) → held ≡ first_of (statements_judged env (out-If i).then.statements) → others ≡ first_of (flat_map (else_if_judged env) (out-If i).others) → earlier_of_both (earlier_of_both condition held) others ≡ first_of (if_judged env i)
+pub if_none : (env : Environment) (i : If) (condition held others : Option Broken) → (out-If i).otherwise ≡ None → condition ≡ first_of (broken_where env (of_built_in Bool) (out-If i).condition) → held ≡ first_of (statements_judged env (out-If i).then.statements) → others ≡ first_of (flat_map (else_if_judged env) (out-If i).others) → earlier_of_both (earlier_of_both condition held) others ≡ first_of (if_judged env i)
 if_none env i condition held others is one two more =
-    first_of_four (broken_where env (of_built_in Boolean) (out-If i).condition) (statements_judged env (out-If i).then.statements) (flat_map (else_if_judged env) (out-If i).others) [] condition held others None one two more refl
+    first_of_four (broken_where env (of_built_in Bool) (out-If i).condition) (statements_judged env (out-If i).then.statements) (flat_map (else_if_judged env) (out-If i).others) [] condition held others None one two more refl
     ∙ ap (λ o. first_of (arms env i o)) (sym is) ∙ ap first_of (sym (judged_if env i))

@@ -11,18 +11,12 @@ use Rattle.slicc_ast.specs.declared.tree.expression.Expr.{Expr}
 use Rattle.slicc_plan.specs.declared.broken.Broken.{Broken}
 use Rattle.slicc_plan.specs.declared.built_in.BuiltInType.TheVariants.{Bool as Boolean}
 use Rattle.slicc_plan.specs.Environment as plan
-use Rattle.slicc_plan.specs.Environment.{Environment, binding}
-use Rattle.slicc_plan.specs.ExpressionTypes.{broken_where}
-use Rattle.slicc_plan.specs.JudgedStatements.{after, judged, local_meaning, statements_judged}
-use Rattle.slicc_plan.specs.Meanings.{Meaning, of_built_in}
-use Rattle.slicc_plan.specs.Order.{earlier_of_both, first_of}
+use Rattle.slicc_plan.specs.Prelude.{Environment, binding, broken_where, after, judged, local_meaning, statements_judged, Meaning, of_built_in, earlier_of_both, first_of}
 use Rattle.slicc_plan.proofs.Firsts.{both-assoc_all, first_after-first_of, first_after-flat_map, first_of-append}
 use Rattle.body_types.specs.declared.environment.Bound.{Bound}
 use Rattle.body_types.specs.declared.environment.Environment as told
-use Rattle.body_types.specs.Environments.{bound_of}
-use Rattle.body_types.specs.Views.{meaning_of}
-use Rattle.statement_rules.specs.Bindings.{IsGrown, at}
-use Rattle.statement_rules.specs.Elses.{else_if_judged}
+use Rattle.body_types.specs.Prelude.{bound_of, meaning_of}
+use Rattle.statement_rules.specs.Prelude.{IsGrown, at, else_if_judged}
 
 -- Statements.
 

@@ -3,8 +3,7 @@ use Rattle.std.specs.Prelude.{◌≡◌, ◌≤◌, List, length, map, reverse, 
 use Rattle.slicc_plan.specs.Environment as plan
 use Rattle.body_types.specs.declared.environment.Bound.{Bound}
 use Rattle.body_types.specs.declared.environment.Environment.{Environment}
-use Rattle.body_types.specs.Environments.{bound_of, sort_of}
-use Rattle.body_types.specs.Views.{meaning_of}
+use Rattle.body_types.specs.Prelude.{bound_of, sort_of, meaning_of}
 
 -- with these names, the outermost first
 abbrev pub at : Environment → List Bound → plan.Environment

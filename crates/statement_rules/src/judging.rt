@@ -1,15 +1,10 @@
 //! The statements of a body, block by block.
 ghost use Rattle.std.specs.Prelude.{◌≡◌, IfOk, OnOk, flat_map};
-ghost use Rattle.slicc_plan.specs.JudgedStatements.{body_judged as body_judged_of, if_judged as if_judged_of, judged as judged_of, statements_judged as statements_judged_of};
-ghost use Rattle.slicc_plan.specs.Order.{first_of};
-ghost use Rattle.body_types.specs.Environments.{IsEnvironment, environment_of};
-ghost use Rattle.body_types.specs.Views.{meaning_of};
-ghost use Rattle.slicc_plan.specs.Environment.{binding, fixed};
-ghost use Rattle.statement_rules.specs.Bindings.{at};
-ghost use Rattle.statement_rules.specs.Elses.{else_if_judged};
+ghost use Rattle.slicc_plan.specs.Prelude.{body_judged, if_judged, judged, statements_judged, first_of, binding, fixed};
+ghost use Rattle.body_types.specs.Prelude.{IsEnvironment, environment_of, meaning_of};
+ghost use Rattle.statement_rules.specs.Prelude.{at, else_if_judged};
 
-use crate::binding::{bind_local, with_names};
-use crate::messages::{enqueued, incoming, outgoing, peeked};
+use crate::messages::{bind_local, enqueued, incoming, outgoing, peeked, with_names};
 use crate::plain::{assigned, broken_value, checked, declared, evaluated, returned, stalled};
 use body_types::{Bound, Environment, Meaning};
 use ruby_base::NoMemory;
@@ -27,7 +22,7 @@ fn statements_judged<'a>(
     statements: &'a [Stmt],
 ) -> Result<Option<Broken>, NoMemory>
     requires { IsEnvironment env }
-    ensures first { IfOk result (λ first. first ≡ first_of (statements_judged_of (at env.entry bound.old.items) statements.entry.now)) }
+    ensures first { IfOk result (λ first. first ≡ first_of (statements_judged (at env.entry bound.old.items) statements.entry.now)) }
     ensures kept { OnOk result (bound.new.items ≡ bound.old.items) }
 {
     let outer = bound.len();
@@ -50,7 +45,7 @@ fn arm_judged<'a>(
     arm: &'a Block,
 ) -> Result<Option<Broken>, NoMemory>
     requires { IsEnvironment env }
-    ensures first { IfOk result (λ first. first ≡ first_of (statements_judged_of (at env.entry bound.old.items) arm.entry.now.statements)) }
+    ensures first { IfOk result (λ first. first ≡ first_of (statements_judged (at env.entry bound.old.items) arm.entry.now.statements)) }
     ensures kept { OnOk result (bound.new.items ≡ bound.old.items) }
 {
     statements_judged(alloc, env, bound, &arm.statements)
@@ -68,7 +63,7 @@ fn block_judged<'a>(
     block: &'a Block,
 ) -> Result<Option<Broken>, NoMemory>
     requires { IsEnvironment env }
-    ensures first { IfOk result (λ first. first ≡ first_of (statements_judged_of (binding (at env.entry bound.old.items) (fixed name.entry.now (meaning_of meaning.entry))) block.entry.now.statements)) }
+    ensures first { IfOk result (λ first. first ≡ first_of (statements_judged (binding (at env.entry bound.old.items) (fixed name.entry.now (meaning_of meaning.entry))) block.entry.now.statements)) }
     ensures kept { OnOk result (bound.new.items ≡ bound.old.items) }
 {
     bound.push(Bound {
@@ -113,7 +108,7 @@ fn if_judged<'a>(
     i: &'a If,
 ) -> Result<Option<Broken>, NoMemory>
     requires { IsEnvironment env }
-    ensures first { IfOk result (λ first. first ≡ first_of (if_judged_of (at env.entry bound.old.items) i.entry.now)) }
+    ensures first { IfOk result (λ first. first ≡ first_of (if_judged (at env.entry bound.old.items) i.entry.now)) }
     ensures kept { OnOk result (bound.new.items ≡ bound.old.items) }
 {
     let here = with_names(env, bound.as_slice());
@@ -139,7 +134,7 @@ fn judged<'a>(
     s: &'a Stmt,
 ) -> Result<Option<Broken>, NoMemory>
     requires { IsEnvironment env }
-    ensures first { IfOk result (λ first. first ≡ first_of (judged_of (at env.entry bound.old.items) s.entry.now)) }
+    ensures first { IfOk result (λ first. first ≡ first_of (judged (at env.entry bound.old.items) s.entry.now)) }
     ensures kept { OnOk result (bound.new.items ≡ bound.old.items) }
 {
     let here = with_names(env, bound.as_slice());
@@ -193,7 +188,7 @@ pub fn body_judged<'a>(
     body: &'a Block,
 ) -> Result<Option<Broken>, NoMemory>
     requires { IsEnvironment env }
-    ensures { IfOk result (λ first. first ≡ first_of (body_judged_of (at env.entry bound.old.items) body.entry.now)) }
+    ensures { IfOk result (λ first. first ≡ first_of (body_judged (at env.entry bound.old.items) body.entry.now)) }
 {
     statements_judged(alloc, env, bound, &body.statements)
 }

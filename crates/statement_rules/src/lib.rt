@@ -1,7 +1,6 @@
 //! The first that is broken in the statements of a body.
 #![tactic(auto)]
 
-mod binding;
 mod judging;
 mod messages;
 mod plain;

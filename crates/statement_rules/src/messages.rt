@@ -1,33 +1,30 @@
-//! What is broken at the heads of `peek` and `enqueue`, and what their messages stand for.
-ghost use Rattle.std.specs.Prelude.{◌≡◌, IfOk};
+//! What is broken at the heads of `peek` and `enqueue`, what their messages stand for, and the names that statements bind, one after another.
+ghost use Rattle.std.specs.Prelude.{◌≡◌, IfOk, ◌∷◌, OnOk};
 ghost use Rattle.std.specs.Option.{option_copied, option_map};
-ghost use Rattle.slicc_plan.specs.JudgedStatements.{enqueued as enqueued_of, in_type as in_type_of, is_peek_allowed as is_peek_allowed_of, out_type as out_type_of, peeked as peeked_of, wrong_message_type as wrong_message_type_of};
-ghost use Rattle.slicc_plan.specs.Meanings.{incoming_of_type as incoming_of, outgoing_of_type as outgoing_of};
-ghost use Rattle.slicc_plan.specs.Environment.{meaning_named as meaning_named_of};
-ghost use Rattle.slicc_plan.specs.Order.{first_of};
-ghost use Rattle.body_types.specs.Environments.{IsEnvironment, environment_of, sort_of};
-ghost use Rattle.body_types.specs.Views.{meaning_of, type_if};
+ghost use Rattle.slicc_plan.specs.Prelude.{enqueued, in_type, is_peek_allowed, out_type, peeked, wrong_message_type, incoming_of_type, outgoing_of_type, meaning_named, first_of, after};
+ghost use Rattle.body_types.specs.Prelude.{IsEnvironment, environment_of, sort_of, meaning_of, type_if, bound_of};
+ghost use Rattle.statement_rules.specs.Prelude.{IsGrown, at};
 
-use crate::plain::{broken_latency, is_in_action};
+use crate::plain::{broken_latency, is_in_action, local_meaning};
 use body_types::{
-    BodySort, Environment, Meaning, Wanted, incoming_of_type, meaning_named, outgoing_of_type,
-    same_type, type_named, unless, wrong_type_name, wrong_value_name,
+    BodySort, Bound, Environment, Meaning, Wanted, incoming_of_type, meaning_named,
+    outgoing_of_type, same_type, type_named, unless, wrong_type_name, wrong_value_name,
 };
 use declared_types::KnownType;
 use ruby_base::NoMemory;
-use slicc_ast::tree::{Expr, Name, Span, TypeName};
+use slicc_ast::tree::{Expr, Name, Span, Stmt, TypeName};
 use slicc_plan::{Broken, Rule, earlier_of_two};
 use std::alloc::Global;
 
 fn is_peek_allowed(sort: BodySort) -> bool
-    ensures { result ≡ is_peek_allowed_of (sort_of sort) }
+    ensures { result ≡ is_peek_allowed (sort_of sort) }
 {
     matches!(sort, BodySort::Port | BodySort::Action)
 }
 
 // The type of the messages of an in port.
 fn in_type<'a>(meaning: Option<Meaning<'a>>) -> Option<KnownType<'a>>
-    ensures { type_if result ≡ in_type_of (option_map meaning_of meaning.entry) }
+    ensures { type_if result ≡ in_type (option_map meaning_of meaning.entry) }
 {
     match meaning {
         Some(Meaning::InPort(t)) => t,
@@ -37,7 +34,7 @@ fn in_type<'a>(meaning: Option<Meaning<'a>>) -> Option<KnownType<'a>>
 
 // The type of the messages of an out port.
 fn out_type<'a>(meaning: Option<Meaning<'a>>) -> Option<KnownType<'a>>
-    ensures { type_if result ≡ out_type_of (option_map meaning_of meaning.entry) }
+    ensures { type_if result ≡ out_type (option_map meaning_of meaning.entry) }
 {
     match meaning {
         Some(Meaning::OutPort(t)) => t,
@@ -53,7 +50,7 @@ fn wrong_message_type<'a>(
     t: Option<KnownType<'a>>,
 ) -> Option<Broken>
     requires { IsEnvironment env }
-    ensures { result ≡ first_of (wrong_message_type_of (environment_of env.entry) message.now (type_if ports.entry) (type_if t.entry)) }
+    ensures { result ≡ first_of (wrong_message_type (environment_of env.entry) message.now (type_if ports.entry) (type_if t.entry)) }
 {
     match (ports, t) {
         (_, None) => wrong_type_name(env, message.text.as_slice(), message.span),
@@ -66,7 +63,7 @@ fn wrong_message_type<'a>(
 #[tactic(auto, using(crate::proofs::Firsts::rules_of_first))]
 pub fn peeked(env: Environment, span: Span, port: &Name, message: &TypeName) -> Option<Broken>
     requires { IsEnvironment env }
-    ensures { result ≡ first_of (peeked_of (environment_of env.entry) span port.now message.now) }
+    ensures { result ≡ first_of (peeked (environment_of env.entry) span port.now message.now) }
 {
     let own = unless(is_peek_allowed(env.sort), Rule::NotAllowedHere, span);
     let own = earlier_of_two(own, wrong_value_name(env, Wanted::AnyInPort, port));
@@ -78,7 +75,7 @@ pub fn peeked(env: Environment, span: Span, port: &Name, message: &TypeName) -> 
 /// What `in_msg` stands for in the block of `peek(port, ..)`.
 pub fn incoming<'a>(env: Environment<'_, 'a>, port: &Name) -> Meaning<'a>
     requires { IsEnvironment env }
-    ensures { meaning_of result ≡ incoming_of (in_type_of (meaning_named_of (environment_of env.entry) port.now.text)) }
+    ensures { meaning_of result ≡ incoming_of_type (in_type (meaning_named (environment_of env.entry) port.now.text)) }
 {
     incoming_of_type(in_type(meaning_named(env, port.text.as_slice())))
 }
@@ -94,7 +91,7 @@ pub fn enqueued<'a>(
     latency: Option<&'a Expr>,
 ) -> Result<Option<Broken>, NoMemory>
     requires { IsEnvironment env }
-    ensures { IfOk result (λ first. first ≡ first_of (enqueued_of (environment_of env.entry) span port.now message.now (option_copied latency.entry))) }
+    ensures { IfOk result (λ first. first ≡ first_of (enqueued (environment_of env.entry) span port.now message.now (option_copied latency.entry))) }
 {
     let own = unless(is_in_action(env.sort), Rule::NotAllowedHere, span);
     let own = earlier_of_two(own, wrong_value_name(env, Wanted::AnyOutPort, port));
@@ -108,7 +105,45 @@ pub fn enqueued<'a>(
 /// What `out_msg` stands for in the block of `enqueue(port, ..)`.
 pub fn outgoing<'a>(env: Environment<'_, 'a>, port: &Name) -> Meaning<'a>
     requires { IsEnvironment env }
-    ensures { meaning_of result ≡ outgoing_of (out_type_of (meaning_named_of (environment_of env.entry) port.now.text)) }
+    ensures { meaning_of result ≡ outgoing_of_type (out_type (meaning_named (environment_of env.entry) port.now.text)) }
 {
     outgoing_of_type(out_type(meaning_named(env, port.text.as_slice())))
+}
+
+/// The environment with these names.
+pub fn with_names<'b, 'a>(env: Environment<'b, 'a>, bound: &'b [Bound<'a>]) -> Environment<'b, 'a>
+    requires { IsEnvironment env }
+    ensures is { environment_of result ≡ at env.entry bound.entry.now }
+    ensures sound { IsEnvironment result }
+{
+    Environment {
+        scopes: env.scopes,
+        scope: env.scope,
+        lines: env.lines,
+        sort: env.sort,
+        answer: env.answer,
+        bound,
+    }
+}
+
+/// Binds the local that a statement declares, if it does.
+pub fn bind_local<'a>(
+    env: Environment<'_, 'a>,
+    bound: &mut Vec<Bound<'a>>,
+    s: &'a Stmt,
+) -> Result<(), NoMemory>
+    requires { IsEnvironment env }
+    ensures names { OnOk result (at env.entry bound.new.items ≡ after (at env.entry bound.old.items) s.entry.now) }
+    ensures kept { OnOk result (IsGrown bound.old.items bound.new.items) }
+{
+    let Stmt::Declare { kind, name, .. } = s else {
+        return Ok(());
+    };
+    let meaning = local_meaning(with_names(env, bound.as_slice()), kind);
+    bound.push(Bound {
+        name: name.text.as_slice(),
+        meaning,
+        is_local: true,
+    })?;
+    Ok(())
 }

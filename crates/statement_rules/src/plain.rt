@@ -1,15 +1,8 @@
 //! What is broken in statements without a block of their own.
 ghost use Rattle.std.specs.Prelude.{◌≡◌, IfOk};
 ghost use Rattle.std.specs.Option.{option_copied};
-ghost use Rattle.slicc_plan.specs.Environment.{is_allowed as is_allowed_of};
-ghost use Rattle.slicc_plan.specs.BuiltInCalls.{in_actions};
-ghost use Rattle.slicc_plan.specs.ExpressionTypes.{span_of as span_in};
-ghost use Rattle.slicc_plan.specs.JudgedStatements.{assigned as assigned_of, broken_latency as broken_latency_of, checked as checked_of, declared as declared_of, local_meaning as local_meaning_of, returned as returned_of, stalled as stalled_of, wrong_local_type as wrong_local_type_of};
-ghost use Rattle.slicc_plan.specs.ExpressionTypes.{broken_where as broken_where_of, typed as typed_of_expression};
-ghost use Rattle.slicc_plan.specs.Meanings.{any_value, of_built_in};
-ghost use Rattle.slicc_plan.specs.Order.{first_of};
-ghost use Rattle.body_types.specs.Environments.{IsEnvironment, environment_of, sort_of};
-ghost use Rattle.body_types.specs.Views.{meaning_of, type_if, wanted_of};
+ghost use Rattle.slicc_plan.specs.Prelude.{is_allowed, in_actions, span_of, assigned, broken_latency, checked, declared, local_meaning, returned, stalled, wrong_local_type, broken_where, typed, any_value, of_built_in, first_of};
+ghost use Rattle.body_types.specs.Prelude.{IsEnvironment, environment_of, sort_of, meaning_of, type_if, wanted_of};
 
 use body_types::{
     BodySort, Environment, Meaning, Wanted, is_value, like_it, type_named, unless, value_of_type,
@@ -25,7 +18,7 @@ use std::alloc::Global;
 
 /// Whether what is for actions alone is allowed.
 pub fn is_in_action(sort: BodySort) -> bool
-    ensures { result ≡ is_allowed_of (sort_of sort) in_actions }
+    ensures { result ≡ is_allowed (sort_of sort) in_actions }
 {
     matches!(sort, BodySort::Action)
 }
@@ -44,7 +37,7 @@ fn wrong_local_type<'a>(
     t: Option<KnownType<'a>>,
 ) -> Option<Broken>
     requires { IsEnvironment env }
-    ensures { result ≡ first_of (wrong_local_type_of (environment_of env.entry) kind.now (type_if t.entry)) }
+    ensures { result ≡ first_of (wrong_local_type (environment_of env.entry) kind.now (type_if t.entry)) }
 {
     match t {
         None => wrong_type_name(env, kind.text.as_slice(), kind.span),
@@ -55,7 +48,7 @@ fn wrong_local_type<'a>(
 /// What a local of this type stands for.
 pub fn local_meaning<'a>(env: Environment<'_, 'a>, kind: &TypeName) -> Meaning<'a>
     requires { IsEnvironment env }
-    ensures { meaning_of result ≡ local_meaning_of (environment_of env.entry) kind.now }
+    ensures { meaning_of result ≡ local_meaning (environment_of env.entry) kind.now }
 {
     value_of_type(env.lines, type_named(env, kind.text.as_slice()))
 }
@@ -69,7 +62,7 @@ pub fn declared<'a>(
     value: &'a Expr,
 ) -> Result<Option<Broken>, NoMemory>
     requires { IsEnvironment env }
-    ensures { IfOk result (λ first. first ≡ first_of (declared_of (environment_of env.entry) kind.now value.entry.now)) }
+    ensures { IfOk result (λ first. first ≡ first_of (declared (environment_of env.entry) kind.now value.entry.now)) }
 {
     let own = wrong_local_type(env, kind, type_named(env, kind.text.as_slice()));
     let wanted = like_it(local_meaning(env, kind));
@@ -86,7 +79,7 @@ pub fn assigned<'a>(
     value: &'a Expr,
 ) -> Result<Option<Broken>, NoMemory>
     requires { IsEnvironment env }
-    ensures { IfOk result (λ first. first ≡ first_of (assigned_of (environment_of env.entry) (span_in place.entry.now) (typed_of_expression (environment_of env.entry) place.entry.now) value.entry.now)) }
+    ensures { IfOk result (λ first. first ≡ first_of (assigned (environment_of env.entry) (span_of place.entry.now) (typed (environment_of env.entry) place.entry.now) value.entry.now)) }
 {
     let to = typed(alloc, env, place)?;
     let then = broken_where(alloc, env, like_it(to.meaning), value)?;
@@ -101,7 +94,7 @@ pub fn evaluated<'a>(
     value: &'a Expr,
 ) -> Result<Option<Broken>, NoMemory>
     requires { IsEnvironment env }
-    ensures { IfOk result (λ first. first ≡ first_of (broken_where_of (environment_of env.entry) any_value value.entry.now)) }
+    ensures { IfOk result (λ first. first ≡ first_of (broken_where (environment_of env.entry) any_value value.entry.now)) }
 {
     broken_where(alloc, env, Wanted::AnyValue, value)
 }
@@ -114,7 +107,7 @@ pub fn broken_value<'a>(
     value: &'a Expr,
 ) -> Result<Option<Broken>, NoMemory>
     requires { IsEnvironment env }
-    ensures { IfOk result (λ first. first ≡ first_of (broken_where_of (environment_of env.entry) (of_built_in b) value.entry.now)) }
+    ensures { IfOk result (λ first. first ≡ first_of (broken_where (environment_of env.entry) (of_built_in b) value.entry.now)) }
 {
     broken_where(alloc, env, built_in(b), value)
 }
@@ -126,7 +119,7 @@ pub fn returned<'a>(
     value: Option<&'a Expr>,
 ) -> Result<Option<Broken>, NoMemory>
     requires { IsEnvironment env }
-    ensures { IfOk result (λ first. first ≡ first_of (returned_of (environment_of env.entry) (option_copied value.entry))) }
+    ensures { IfOk result (λ first. first ≡ first_of (returned (environment_of env.entry) (option_copied value.entry))) }
 {
     match value {
         None => Ok(None),
@@ -141,7 +134,7 @@ pub fn broken_latency<'a>(
     latency: Option<&'a Expr>,
 ) -> Result<Option<Broken>, NoMemory>
     requires { IsEnvironment env }
-    ensures { IfOk result (λ first. first ≡ first_of (broken_latency_of (environment_of env.entry) (option_copied latency.entry))) }
+    ensures { IfOk result (λ first. first ≡ first_of (broken_latency (environment_of env.entry) (option_copied latency.entry))) }
 {
     match latency {
         None => Ok(None),
@@ -159,7 +152,7 @@ pub fn stalled<'a>(
     address: &'a Expr,
 ) -> Result<Option<Broken>, NoMemory>
     requires { IsEnvironment env }
-    ensures { IfOk result (λ first. first ≡ first_of (stalled_of (environment_of env.entry) span port.now address.entry.now)) }
+    ensures { IfOk result (λ first. first ≡ first_of (stalled (environment_of env.entry) span port.now address.entry.now)) }
 {
     let own = unless(is_in_action(env.sort), Rule::NotAllowedHere, span);
     let own = earlier_of_two(own, wrong_value_name(env, Wanted::AnyInPort, port));
@@ -171,7 +164,7 @@ pub fn stalled<'a>(
 #[tactic(auto, using(crate::proofs::Firsts::rules_of_first))]
 pub fn checked(env: Environment, span: Span, name: &Name) -> Option<Broken>
     requires { IsEnvironment env }
-    ensures { result ≡ first_of (checked_of (environment_of env.entry) span name.now) }
+    ensures { result ≡ first_of (checked (environment_of env.entry) span name.now) }
 {
     let own = unless(is_in_action(env.sort), Rule::NotAllowedHere, span);
     earlier_of_two(

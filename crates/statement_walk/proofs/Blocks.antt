@@ -1,14 +1,12 @@
 -- A block, whose names are gone after it.
 use Rattle.std.proofs.Common.{◌≡◌, ℕ, Ok, Err, ap, subst}
 use Rattle.ctl_face.specs.declared.trouble.Trouble.{Trouble}
-use Rattle.ctl_face.specs.LocalView.{LocalView}
-use Rattle.acts.specs.Acting.{Acting, ends}
-use Rattle.acts.specs.DoesAs.{DoesAs}
+use Rattle.ctl_face.specs.Prelude.{LocalView}
+use Rattle.acts.specs.Prelude.{Acting, ends, DoesAs}
 use Rattle.acts.proofs.Walk.{does_ends_as, then_does, then_stops}
 use Rattle.body_meaning.specs.declared.frame.Flow.{Flow}
 use Rattle.body_meaning.specs.declared.frame.Frame.{Frame}
-use Rattle.body_meaning.specs.Frames.{Ended, ended, leave}
-use Rattle.body_meaning.specs.Statements.{scoped}
+use Rattle.body_meaning.specs.Prelude.{Ended, ended, leave, scoped}
 
 module _ (block : Frame → Acting Ended) (n : ℕ) (before now f last : Frame) (same : now ≡ before) (v u : LocalView) where
   pub scoped_ends : (flow : Flow) → last ≡ leave n f → DoesAs (ended f) (block now) (Ok flow) v u → DoesAs (ended last) (scoped block n before) (Ok flow) v u

@@ -3,10 +3,9 @@ use Rattle.std.proofs.Common.{arith, ◌≡◌, ◌+◌, ℕ, suc, Option, None,
 use Rattle.ruby_value.specs.declared.value.Value.{Value}
 use Rattle.ruby_symbols.specs.declared.machine.FormalSymbol.{FormalSymbol}
 use Rattle.acts.specs.declared.body_fault.BodyFault.TheVariants as own
-use Rattle.acts.specs.Acting.{stops}
+use Rattle.acts.specs.Prelude.{stops}
 use Rattle.body_meaning.specs.declared.frame.Bound.{Bound}
-use Rattle.body_meaning.specs.Reading.{Reading}
-use Rattle.body_meaning.specs.Bodies.{bound_formals, calls_within, function_called, with_formal}
+use Rattle.body_meaning.specs.Prelude.{Reading, bound_formals, calls_within, function_called, with_formal}
 
 pub no_call_within : (s : Reading) (depth k : ℕ) (arguments : List Value) → depth ≡ 0 → calls_within s depth k arguments ≡ stops own.Reference
 unfolding calls_within

@@ -3,19 +3,15 @@ use Rattle.std.proofs.Common.{◌≡◌, Option, Some, List, [], Result, Ok, Err
 use Rattle.slicc_ast.specs.declared.tree.statement.Block.{Block}
 use Rattle.slicc_ast.specs.declared.tree.statement.Stmt.{Stmt}
 use Rattle.ctl_face.specs.declared.trouble.Trouble.{Trouble}
-use Rattle.ctl_face.specs.LocalView.{LocalView}
+use Rattle.ctl_face.specs.Prelude.{LocalView}
 use Rattle.acts.specs.declared.body_fault.BodyFault.TheVariants as own
-use Rattle.acts.specs.Acting.{Acting, ends, ◌>>=◌, found}
-use Rattle.acts.specs.DoesAs.{DoesAs, itself}
+use Rattle.acts.specs.Prelude.{Acting, ends, ◌>>=◌, found, DoesAs, itself}
 use Rattle.acts.proofs.Walk.{does_ends_as, found_does, then_does, then_stops}
 use Rattle.body_meaning.specs.declared.frame.About.{About}
 use Rattle.body_meaning.specs.declared.frame.Bound.{Bound}
 use Rattle.body_meaning.specs.declared.frame.Flow.{Flow}
 use Rattle.body_meaning.specs.declared.frame.Frame.{Frame}
-use Rattle.body_meaning.specs.Bodies.{calls_of}
-use Rattle.body_meaning.specs.Frames.{Ended, ended}
-use Rattle.body_meaning.specs.Reading.{Reading}
-use Rattle.body_meaning.specs.Statements.{all_done}
+use Rattle.body_meaning.specs.Prelude.{calls_of, Ended, ended, Reading, all_done}
 
 module _ {A : Type 0} (answer : Ended → A) (s : Reading) (o : Option Block) (b : Block) (about : Option About) (frame : Frame) (names : List Bound) (statements : List Stmt)
     (is : o ≡ Some b) (none : names ≡ []) (same : statements ≡ b.statements) (u v : LocalView) where

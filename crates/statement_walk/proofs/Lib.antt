@@ -3,7 +3,6 @@ pub mod Made
 pub mod Steps
 pub mod Sending
 pub mod Blocks
-pub mod Forms
 pub mod BodyEnds
 pub mod BodyCalls
 pub mod Spends

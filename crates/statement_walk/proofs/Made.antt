@@ -2,8 +2,7 @@
 use Rattle.std.proofs.Common.{◌≡◌, ◌+◌, ◌-◌, ◌∙◌, ℕ, zero, suc, None, Some, List, [], ◌∷◌, drop, length, slice_get, refl, ap, arith}
 use Rattle.std.proofs.lemmas.Option.{same_Some}
 use Rattle.body_meaning.specs.declared.frame.Bound.{Bound}
-use Rattle.body_meaning.specs.Frames.{outermost}
-use Rattle.body_meaning.specs.Statements.{fields_made}
+use Rattle.body_meaning.specs.Prelude.{outermost, fields_made}
 
 fields_at : (names : List Bound) (k : ℕ) (b : Bound) → slice_get names k ≡ Some b → fields_made (drop k names) ≡ fields_made (b ∷ [])
 fields_at [] k b is = cc

@@ -14,13 +14,10 @@ use Rattle.slicc_ast.specs.declared.tree.statement.Stmt.{Stmt, CheckAllocate, Pr
 use Rattle.slicc_ast.specs.declared.tree.statement.Stmt.TheBlock as block
 use Rattle.slicc_ast.specs.declared.tree.statement.Stmt.TheViews as views
 use Rattle.slicc_ast.specs.declared.tree.statement.Stmt.TheViews.{the_lemmas}
-use Rattle.acts.specs.Acting.{Acting}
+use Rattle.acts.specs.Prelude.{Acting}
 use Rattle.body_meaning.specs.declared.frame.Frame.{Frame}
-use Rattle.body_meaning.specs.Calls.{Calls}
-use Rattle.body_meaning.specs.Frames.{Ended}
-use Rattle.body_meaning.specs.Reading.{Reading}
-use Rattle.body_meaning.specs.Statements.{all_done, block_in, chosen, enqueued, exec, goes_on, if_done, others_done, peeked, row_done, went_on}
-use Rattle.statement_walk.specs.Parts.{others_of, otherwise_of}
+use Rattle.body_meaning.specs.Prelude.{Calls, Ended, Reading, all_done, block_in, chosen, enqueued, exec, goes_on, if_done, others_done, peeked, row_done, went_on}
+use Rattle.statement_walk.specs.Prelude.{others_of, otherwise_of}
 
 abbrev pub Doing : Type 0
 Doing = Frame → Acting Ended

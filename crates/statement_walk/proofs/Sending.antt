@@ -3,18 +3,14 @@ use Rattle.std.proofs.Common.{◌≡◌, ◌+◌, ℕ, ℤ, List, Option, Ok, Er
 use Rattle.slicc_ast.specs.declared.tree.expression.Expr.{Expr}
 use Rattle.ruby_value.specs.declared.value.Value.{Value}
 use Rattle.ctl_face.specs.declared.trouble.Trouble.{Trouble}
-use Rattle.ctl_face.specs.LocalView.{LocalView}
+use Rattle.ctl_face.specs.Prelude.{LocalView}
 use Rattle.acts.specs.Act as act
-use Rattle.acts.specs.Acting.{act as done, ◌>>◌}
-use Rattle.acts.specs.DoesAs.{DoesAs, itself}
+use Rattle.acts.specs.Prelude.{act as done, ◌>>◌, DoesAs, itself}
 use Rattle.acts.proofs.Walk.{and_does, and_stops, does_ends_as, then_does, then_stops}
 use Rattle.body_meaning.specs.declared.frame.Flow.TheVariants.{WentOn}
 use Rattle.body_meaning.specs.declared.frame.Frame.{Frame}
-use Rattle.body_meaning.specs.Calls.{Calls}
-use Rattle.body_meaning.specs.Frames.{ended, leave, outermost}
-use Rattle.body_meaning.specs.Reading.{Reading}
-use Rattle.body_meaning.specs.Statements.{fields_made, latency, went_on}
-use Rattle.statement_walk.specs.Parts.{sent_on}
+use Rattle.body_meaning.specs.Prelude.{Calls, ended, leave, outermost, Reading, fields_made, latency, went_on}
+use Rattle.statement_walk.specs.Prelude.{sent_on}
 
 module _ (s : Reading) (calls : Calls) (buffer : ℕ) (written : Option Expr) (n : ℕ) (frame after : Frame) (left : after ≡ leave n frame) (u v w : LocalView) where
   pub no_latency : (e : Trouble) → DoesAs itself (latency s calls after written) (Err e) u v → DoesAs (ended after) (sent_on s calls buffer written n frame) (Err e) u w

@@ -11,8 +11,8 @@ use Rattle.slicc_ast.specs.declared.tree.statement.ElseIf.{ElseIf}
 use Rattle.slicc_ast.specs.declared.tree.statement.If.{If, If', None', Some', Row_of-ElseIf, end_of-ElseIf, more_of-ElseIf, items-the_row-ElseIf, out-If}
 use Rattle.slicc_ast.specs.declared.tree.statement.Stmt.{Stmt, Row_of-Stmt, end_of-Stmt, more_of-Stmt, items-the_row-Stmt}
 use Rattle.slicc_ast.specs.declared.tree.statement.Stmt.TheViews.{the_lemmas}
-use Rattle.body_meaning.specs.Actions.{block_checked, checked, if_checked, others_checked, otherwise_checked, row_checked}
-use Rattle.statement_walk.specs.Spending.{else_if_checked, one_less, spend, spent}
+use Rattle.body_meaning.specs.Prelude.{block_checked, checked, if_checked, others_checked, otherwise_checked, row_checked}
+use Rattle.statement_walk.specs.Prelude.{else_if_checked, one_less, spend, spent}
 
 -- The names in the rows of a tree are those of the items, one after another.
 

@@ -2,27 +2,21 @@
 use Rattle.std.proofs.Common.{◌≡◌, ◌<◌, ◌≤◌, ◌+◌, ◌∙◌, ℕ, true, false, List, ◌∷◌, Result, Ok, Err, drop, get_or, length, refl, sym, ap, subst}
 use Rattle.std.proofs.lemmas.List.{drop_all, drop_more}
 use Rattle.ctl_face.specs.declared.trouble.Trouble.{Trouble}
-use Rattle.ctl_face.specs.LocalView.{LocalView}
+use Rattle.ctl_face.specs.Prelude.{LocalView}
 use Rattle.slicc_ast.specs.declared.tree.expression.Expr.{Expr}
 use Rattle.slicc_ast.specs.declared.tree.statement.ElseIf.{ElseIf}
 use Rattle.slicc_ast.specs.declared.tree.statement.If.{If, out-If}
 use Rattle.slicc_ast.specs.declared.tree.statement.Stmt.{Stmt}
-use Rattle.acts.specs.Acting.{Acting, either}
-use Rattle.acts.specs.DoesAs.{DoesAs, itself}
+use Rattle.acts.specs.Prelude.{Acting, either, DoesAs, itself}
 use Rattle.acts.proofs.Walk.{does_ends_as, false_does, then_does, then_stops, true_does}
-use Rattle.built_in_acts.specs.Values.{truth}
+use Rattle.built_in_acts.specs.Prelude.{truth}
 use Rattle.body_meaning.specs.declared.frame.Flow.{Flow}
 use Rattle.body_meaning.specs.declared.frame.Flow.TheVariants.{WentOn, Returned, Triggered}
 use Rattle.body_meaning.specs.declared.frame.Frame.{Frame}
 use Rattle.body_meaning.specs.declared.thing.Thing.{Thing}
 use Rattle.body_meaning.specs.declared.thing.Trigger.{Trigger}
-use Rattle.body_meaning.specs.Calls.{Calls}
-use Rattle.body_meaning.specs.Expressions.{value}
-use Rattle.body_meaning.specs.Frames.{Ended, ended}
-use Rattle.body_meaning.specs.Reading.{Reading}
-use Rattle.body_meaning.specs.Statements.{after, all_done, block_in, chosen, exec, goes_on, if_done}
-use Rattle.body_meaning.specs.Things.{value_in}
-use Rattle.statement_walk.specs.Parts.{others_of, others_of_if, otherwise_of}
+use Rattle.body_meaning.specs.Prelude.{Calls, value, Ended, ended, Reading, after, all_done, block_in, chosen, exec, goes_on, if_done, value_in}
+use Rattle.statement_walk.specs.Prelude.{others_of, others_of_if, otherwise_of}
 use Rattle.statement_walk.proofs.Rows.{Doing, arms, if_is}
 
 -- One statement after another.

@@ -8,16 +8,12 @@ use Rattle.slicc_ast.specs.declared.tree.statement.If.{If, out-If}
 use Rattle.slicc_ast.specs.declared.tree.statement.Stmt.{Stmt}
 use Rattle.ruby_value.specs.declared.value.Value.{Value}
 use Rattle.acts.specs.Act as act
-use Rattle.acts.specs.Acting.{Acting, ◌>>=◌, ◌>>◌, act as done}
+use Rattle.acts.specs.Prelude.{Acting, ◌>>=◌, ◌>>◌, act as done}
 use Rattle.body_meaning.specs.declared.frame.Frame.{Frame}
-use Rattle.body_meaning.specs.declared.scope.Scope.{Scope}
+use Rattle.body_meaning.specs.declared.frame.Scope.{Scope}
 use Rattle.body_meaning.specs.declared.thing.Thing.{Thing}
 use Rattle.body_meaning.specs.declared.thing.Thing.TheVariants as thing
-use Rattle.body_meaning.specs.Bodies.{calls_within}
-use Rattle.body_meaning.specs.Calls.{Calls}
-use Rattle.body_meaning.specs.Frames.{Ended, bind, leave, outermost}
-use Rattle.body_meaning.specs.Reading.{Reading, reading}
-use Rattle.body_meaning.specs.Statements.{all_done, block_in, chosen, fields_made, latency, scoped, sent, went_on}
+use Rattle.body_meaning.specs.Prelude.{calls_within, Calls, Ended, bind, leave, outermost, Reading, reading, all_done, block_in, chosen, fields_made, latency, scoped, sent, went_on}
 
 -- the block of `peek`, in which `in_msg` is a message with these fields
 abbrev pub viewed : (Frame → Acting Ended) → ℕ → List Value → Frame → Acting Ended

@@ -2,7 +2,7 @@
 -- says whether more names pass than the number, and needs no number for how many do.
 use Rattle.std.specs.Prelude.{ℕ, zero, suc, Bool, Option, None, Some, List, cond, flat_map, fold}
 use Rattle.slicc_ast.specs.declared.tree.statement.ElseIf.{ElseIf}
-use Rattle.body_meaning.specs.Actions.{checked}
+use Rattle.body_meaning.specs.Prelude.{checked}
 
 abbrev pub one_less : ℕ → Option ℕ
 one_less zero = None

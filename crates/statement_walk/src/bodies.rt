@@ -1,10 +1,7 @@
 // The bodies that a machine has, by what they are of.
 ghost use Rattle.std.specs.Prelude.{◌≡◌, slice_get};
 ghost use Rattle.std.specs.Option.{option_copied};
-ghost use Rattle.body_meaning.specs.Bodies.{body_of as body_of_function_is};
-ghost use Rattle.body_meaning.specs.Reading.{reading};
-ghost use Rattle.body_meaning.specs.Actions.{body_of_action as body_of_action_is};
-ghost use Rattle.body_meaning.specs.Scan.{port_block as port_block_is};
+ghost use Rattle.body_meaning.specs.Prelude.{body_of, reading, body_of_action, port_block};
 
 use body_meaning::Scope;
 use ruby_symbols::{FunctionSymbol, PortSymbol};
@@ -12,7 +9,7 @@ use slicc_ast::tree::{Block, Decl, Function, Machine};
 
 // The body of a function of the machine.
 pub(crate) fn body_of_function<'a>(tree: &'a Machine, f: &FunctionSymbol) -> Option<&'a Block>
-    ensures { option_copied result ≡ body_of_function_is tree.now f.now }
+    ensures { option_copied result ≡ body_of tree.now f.now }
 {
     match tree.declarations.get(f.declaration as usize) {
         Some(Decl::Function(Function::Plain { body, .. })) => body.as_ref(),
@@ -22,7 +19,7 @@ pub(crate) fn body_of_function<'a>(tree: &'a Machine, f: &FunctionSymbol) -> Opt
 
 // The body of the action of this number.
 pub(crate) fn body_of_action<'a>(s: Scope<'a>, number: u16) -> Option<&'a Block>
-    ensures { option_copied result ≡ body_of_action_is (reading s.entry) number }
+    ensures { option_copied result ≡ body_of_action (reading s.entry) number }
 {
     let Some(a) = s.machine.actions.get(usize::from(number)) else {
         return None;
@@ -36,7 +33,7 @@ pub(crate) fn body_of_action<'a>(s: Scope<'a>, number: u16) -> Option<&'a Block>
 // The body of an in port of the machine.
 pub(crate) fn body_of_port<'a>(tree: &'a Machine, p: &PortSymbol) -> Option<&'a Block>
     ensures { option_copied result
-        ≡ port_block_is (slice_get tree.now.declarations p.now.declaration) }
+        ≡ port_block (slice_get tree.now.declarations p.now.declaration) }
 {
     match tree.declarations.get(p.declaration as usize) {
         Some(Decl::InPort(port)) => Some(&port.body),

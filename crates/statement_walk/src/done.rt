@@ -1,10 +1,8 @@
 // The bodies of actions and of in ports, done from their beginning.
 ghost use Rattle.std.specs.Prelude.{◌≡◌};
-ghost use Rattle.acts.specs.DoesAs.{DoesAs, itself};
-ghost use Rattle.body_meaning.specs.Reading.{reading};
-ghost use Rattle.statement_walk.specs.Few.{HasFew};
-ghost use Rattle.body_meaning.specs.Scan.{port_done};
-ghost use Rattle.body_meaning.specs.Transition.{about_left, action_done};
+ghost use Rattle.acts.specs.Prelude.{DoesAs, itself};
+ghost use Rattle.body_meaning.specs.Prelude.{reading, port_done, about_left, action_done};
+ghost use Rattle.statement_walk.specs.Prelude.{HasFew};
 
 use crate::bodies::{body_of_action, body_of_port};
 use crate::functions::body_done;

@@ -1,13 +1,10 @@
 // Calls of a machine's functions, and bodies whose statements may call them.
 ghost use Rattle.std.specs.Prelude.{◌≡◌, ◌++◌, [], IfOk, OnOk, length, slice_get};
 ghost use Rattle.std.specs.Option.{option_copied};
-ghost use Rattle.acts.specs.DoesAs.{DoesAs, itself};
-ghost use Rattle.body_meaning.specs.Bodies.{answer_of as answer_is, bound_formals as bound_formals_are, calls_of, calls_within, frame_of as frame_is, function_called as function_called_is, function_run as function_run_is, with_formal};
-ghost use Rattle.body_meaning.specs.Frames.{ended};
-ghost use Rattle.body_meaning.specs.Statements.{all_done as all_done_is};
-ghost use Rattle.body_meaning.specs.Reading.{reading};
-ghost use Rattle.body_walk.specs.CallsDo.{CallsDo};
-ghost use Rattle.statement_walk.specs.Few.{HasFew};
+ghost use Rattle.acts.specs.Prelude.{DoesAs, itself};
+ghost use Rattle.body_meaning.specs.Prelude.{answer_of, bound_formals, calls_of, calls_within, frame_of, function_called, function_run, with_formal, ended, all_done, reading};
+ghost use Rattle.body_walk.specs.Prelude.{CallsDo};
+ghost use Rattle.statement_walk.specs.Prelude.{HasFew};
 
 use crate::all_done;
 use crate::bodies::body_of_function;
@@ -19,7 +16,7 @@ use slicc_ast::tree::{Block, Stmt};
 use std::alloc::Global;
 
 fn answer_of(flow: Flow) -> Thing
-    ensures { result ≡ answer_is flow }
+    ensures { result ≡ answer_of flow }
 {
     match flow {
         Flow::WentOn => Thing::Nothing,
@@ -50,7 +47,7 @@ fn bound_formals(
     formals: &[FormalSymbol],
     arguments: Vec<Value>,
 ) -> Result<Seq<Bound>, NoMemory>
-    ensures { IfOk result (λ names. names ≡ bound_formals_are formals.now arguments.items) }
+    ensures { IfOk result (λ names. names ≡ bound_formals formals.now arguments.items) }
 {
     let mut names = Seq::new(alloc);
     let mut rest = formals;
@@ -64,7 +61,7 @@ fn bound_formals(
 }
 
 fn frame_of(alloc: Global, f: &FunctionSymbol, arguments: Seq<Value>) -> Result<Frame, NoMemory>
-    ensures { IfOk result (λ frame. frame ≡ frame_is f.now arguments) }
+    ensures { IfOk result (λ frame. frame ≡ frame_of f.now arguments) }
 {
     Ok(Frame {
         names: bound_formals(alloc, &f.formals, arguments.into_vec())?,
@@ -84,7 +81,7 @@ fn function_run<T: Local, F: Fn(u16, Seq<Value>, &mut T) -> Result<Thing, Troubl
     requires callable { F.IsAlwaysCallable calls.now }
     requires does { CallsDo T.view F.Fn calls.now (calls_within (reading s) depth) }
     ensures { DoesAs itself
-        (function_run_is (reading s.entry) (calls_within (reading s.entry) depth) frame (option_copied block.entry))
+        (function_run (reading s.entry) (calls_within (reading s.entry) depth) frame (option_copied block.entry))
         result (T.view local.old) (T.view local.new) }
 {
     let Some(block) = block else {
@@ -106,7 +103,7 @@ fn function_called<T: Local, F: Fn(u16, Seq<Value>, &mut T) -> Result<Thing, Tro
     requires callable { F.IsAlwaysCallable calls.now }
     requires does { CallsDo T.view F.Fn calls.now (calls_within (reading s) depth) }
     ensures { DoesAs itself
-        (function_called_is (reading s.entry) (calls_within (reading s.entry) depth) arguments
+        (function_called (reading s.entry) (calls_within (reading s.entry) depth) arguments
         (slice_get s.entry.machine.now.functions number))
         result (T.view local.old) (T.view local.new) }
 {
@@ -180,7 +177,7 @@ pub(crate) fn body_done<T: Local>(
 ) -> Result<Flow, Trouble>
     requires few { HasFew s.machine.now }
     ensures { DoesAs (ended frame.new)
-        (all_done_is (reading s.entry) (calls_of (reading s.entry)) statements.now frame.old) result
+        (all_done (reading s.entry) (calls_of (reading s.entry)) statements.now frame.old) result
         (T.view local.old) (T.view local.new) }
 {
     let depth = depth_of(s.machine);

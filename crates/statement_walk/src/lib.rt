@@ -1,31 +1,20 @@
 //! What the statements of a body do in a local, one after another: those with a block, which are `if`, `peek` and `enqueue`, and those
-//! without one. What the bodies of a machine do: those of its functions, as they are called from each other, and those of its actions and
-//! in ports. And the state of a line by the functions that a machine may have for it, and the free lines that actions need, counted in
-//! their bodies.
+//! without one, by `plain_walk`. What the bodies of a machine do: those of its functions, as they are called from each other, and those of
+//! its actions and in ports. And the state of a line by the functions that a machine may have for it, and the free lines that actions
+//! need, counted in their bodies.
 #![tactic(auto, using(acts::proofs::Walk::walk_steps))]
 
-mod alone;
 mod bodies;
-mod calls;
-mod changes;
 mod done;
-mod ends;
 mod functions;
 mod messages;
-mod named;
 mod needs;
-mod plain;
 mod sends;
 mod states;
 mod walk;
 
-pub use alone::evaluated;
-pub use changes::assigned;
 pub use done::{action_done, port_done};
-pub use ends::is_true;
 pub use functions::call_function;
-pub use named::{found, port};
 pub use needs::need_more;
-pub use plain::{asserted, declared, failed, returned, stalled};
 pub use states::{permission_set, state_by, state_set};
 pub use walk::all_done;

@@ -1,14 +1,12 @@
 // The messages that `peek` and `enqueue` open.
 ghost use Rattle.acts.specs.declared.body_fault.BodyFault.TheVariants as own;
-ghost use Rattle.acts.specs.Acting.{found};
-ghost use Rattle.acts.specs.DoesAs.{DoesAs, itself};
-ghost use Rattle.body_meaning.specs.Names.{message_of, new_message};
-ghost use Rattle.body_meaning.specs.Reading.{reading};
+ghost use Rattle.acts.specs.Prelude.{found, DoesAs, itself};
+ghost use Rattle.body_meaning.specs.Prelude.{message_of, new_message, reading};
 
-use crate::found;
 use acts::{Local, Trouble};
 use body_meaning::{Scope, Thing, message_of};
 use body_walk::new_message;
+use plain_walk::found;
 use std::alloc::Global;
 
 /// The structure of a buffer's messages.

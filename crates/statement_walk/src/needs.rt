@@ -1,8 +1,7 @@
 // Whether actions need more free lines of a table than there are.
 ghost use Rattle.std.specs.Prelude.{◌≡◌, flat_map, nat_lt};
-ghost use Rattle.body_meaning.specs.Actions.{block_checked, body_of_action as body_of_action_is, checked, if_checked, names_table as names_table_is, need};
-ghost use Rattle.statement_walk.specs.Spending.{else_if_checked, one_less as one_less_is, spend as spend_is, spent};
-ghost use Rattle.body_meaning.specs.Reading.{reading};
+ghost use Rattle.body_meaning.specs.Prelude.{block_checked, body_of_action, checked, if_checked, names_table, need, reading};
+ghost use Rattle.statement_walk.specs.Prelude.{else_if_checked, one_less, spend, spent};
 
 use crate::bodies::body_of_action;
 use body_meaning::Scope;
@@ -10,7 +9,7 @@ use ruby_symbols::{MachineSymbols, Named, stands_for};
 use slicc_ast::tree::{Block, ElseIf, If, Stmt};
 
 fn names_table(m: &MachineSymbols, table: u16, name: &[u8]) -> bool
-    ensures { result ≡ names_table_is m.now table name.now }
+    ensures { result ≡ names_table m.now table name.now }
 {
     match stands_for(m, name) {
         Some(Named::Table(number)) => number == table,
@@ -19,13 +18,13 @@ fn names_table(m: &MachineSymbols, table: u16, name: &[u8]) -> bool
 }
 
 fn one_less(n: u64) -> Option<u64>
-    ensures { result ≡ one_less_is n }
+    ensures { result ≡ one_less n }
 {
     if n == 0 { None } else { Some(n - 1) }
 }
 
 fn spend(m: &MachineSymbols, table: u16, left: Option<u64>, name: &[u8]) -> Option<u64>
-    ensures { result ≡ spend_is (names_table_is m.now table) left name.now }
+    ensures { result ≡ spend (names_table m.now table) left name.now }
 {
     match left {
         None => None,
@@ -42,7 +41,7 @@ fn spend(m: &MachineSymbols, table: u16, left: Option<u64>, name: &[u8]) -> Opti
 // What is left after the `check_allocate` statements of a block that are for the table.
 #[cycle(spending)]
 fn spend_block(m: &MachineSymbols, table: u16, left: Option<u64>, b: &Block) -> Option<u64>
-    ensures { result ≡ spent (names_table_is m.now table) left (flat_map checked b.now.statements) }
+    ensures { result ≡ spent (names_table m.now table) left (flat_map checked b.now.statements) }
 {
     let mut left = left;
     for statement in b.statements.as_slice() {
@@ -53,7 +52,7 @@ fn spend_block(m: &MachineSymbols, table: u16, left: Option<u64>, b: &Block) -> 
 
 #[cycle(spending)]
 fn spend_others(m: &MachineSymbols, table: u16, left: Option<u64>, others: &[ElseIf]) -> Option<u64>
-    ensures { result ≡ spent (names_table_is m.now table) left
+    ensures { result ≡ spent (names_table m.now table) left
         (flat_map else_if_checked others.now) }
 {
     let mut left = left;
@@ -65,7 +64,7 @@ fn spend_others(m: &MachineSymbols, table: u16, left: Option<u64>, others: &[Els
 
 #[cycle(spending)]
 fn spend_if(m: &MachineSymbols, table: u16, left: Option<u64>, i: &If) -> Option<u64>
-    ensures { result ≡ spent (names_table_is m.now table) left (if_checked i.now) }
+    ensures { result ≡ spent (names_table m.now table) left (if_checked i.now) }
 {
     let first = spend_block(m, table, left, &i.then);
     let second = spend_others(m, table, first, &i.others);
@@ -77,7 +76,7 @@ fn spend_if(m: &MachineSymbols, table: u16, left: Option<u64>, i: &If) -> Option
 
 #[cycle(spending)]
 fn spend_stmt(m: &MachineSymbols, table: u16, left: Option<u64>, s: &Stmt) -> Option<u64>
-    ensures { result ≡ spent (names_table_is m.now table) left (checked s.now) }
+    ensures { result ≡ spent (names_table m.now table) left (checked s.now) }
 {
     match s {
         Stmt::If(inner) => spend_if(m, table, left, inner),
@@ -96,8 +95,8 @@ fn spend_stmt(m: &MachineSymbols, table: u16, left: Option<u64>, s: &Stmt) -> Op
 }
 
 fn spend_action(s: Scope<'_>, table: u16, left: Option<u64>, number: u16) -> Option<u64>
-    ensures { result ≡ spent (names_table_is s.entry.machine.now table) left
-        (block_checked (body_of_action_is (reading s.entry) number)) }
+    ensures { result ≡ spent (names_table s.entry.machine.now table) left
+        (block_checked (body_of_action (reading s.entry) number)) }
 {
     match body_of_action(s, number) {
         None => left,
@@ -106,8 +105,8 @@ fn spend_action(s: Scope<'_>, table: u16, left: Option<u64>, number: u16) -> Opt
 }
 
 fn spend_actions(s: Scope<'_>, table: u16, left: Option<u64>, actions: &[u16]) -> Option<u64>
-    ensures { result ≡ spent (names_table_is s.entry.machine.now table) left
-        (flat_map (λ number. block_checked (body_of_action_is (reading s.entry) number)) actions.now) }
+    ensures { result ≡ spent (names_table s.entry.machine.now table) left
+        (flat_map (λ number. block_checked (body_of_action (reading s.entry) number)) actions.now) }
 {
     let mut left = left;
     for number in actions {

@@ -1,14 +1,10 @@
 // What `enqueue` does after its block.
 ghost use Rattle.std.specs.Prelude.{◌≡◌, ◌+◌, [], ◌∷◌, IfOk};
-ghost use Rattle.acts.specs.DoesAs.{DoesAs, itself};
-ghost use Rattle.body_walk.specs.CallsDo.{CallsDo};
-ghost use Rattle.body_meaning.specs.Bodies.{calls_within};
-ghost use Rattle.body_meaning.specs.Frames.{ended, outermost};
-ghost use Rattle.body_meaning.specs.Reading.{reading};
-ghost use Rattle.body_meaning.specs.Statements.{fields_made, latency, sent};
-ghost use Rattle.body_meaning.specs.Things.{value_in};
-ghost use Rattle.built_in_acts.specs.Values.{number};
-ghost use Rattle.statement_walk.specs.Parts.{sent_on};
+ghost use Rattle.acts.specs.Prelude.{DoesAs, itself};
+ghost use Rattle.body_walk.specs.Prelude.{CallsDo};
+ghost use Rattle.body_meaning.specs.Prelude.{calls_within, ended, outermost, reading, fields_made, latency, sent, value_in};
+ghost use Rattle.built_in_acts.specs.Prelude.{number};
+ghost use Rattle.statement_walk.specs.Prelude.{sent_on};
 
 use acts::{Fields, Local, NoMemory, Trouble, Value, send};
 use body_meaning::{Bound, Flow, Frame, Scope, Thing, value_in};

@@ -1,9 +1,8 @@
 // The state of a line, which the machine's own functions read and set, or else the built-in map does.
 ghost use Rattle.std.specs.Prelude.{◌≡◌, IfOk};
-ghost use Rattle.acts.specs.DoesAs.{DoesAs, itself};
-ghost use Rattle.body_meaning.specs.Transition.{arguments_for as arguments_for_is, permission_set as permission_set_is, state_argument as state_argument_is, state_by as state_by_is, state_set as state_set_is};
-ghost use Rattle.statement_walk.specs.Few.{HasFew};
-ghost use Rattle.body_meaning.specs.Reading.{reading};
+ghost use Rattle.acts.specs.Prelude.{DoesAs, itself};
+ghost use Rattle.body_meaning.specs.Prelude.{arguments_for, permission_set, state_argument, state_by, state_set, reading};
+ghost use Rattle.statement_walk.specs.Prelude.{HasFew};
 
 use crate::functions::called;
 use acts::{Local, NoMemory, Trouble, Value, set_state, state};
@@ -16,7 +15,7 @@ use ruby_symbols::{
 use std::alloc::Global;
 
 fn state_argument(m: &MachineSymbols, a: About, state: u16, argument: StateArgument) -> Value
-    ensures { result ≡ state_argument_is m.now a state argument }
+    ensures { result ≡ state_argument m.now a state argument }
 {
     match argument {
         StateArgument::Tbe => Value::Tbe(a.tbe),
@@ -33,7 +32,7 @@ fn arguments_for(
     state: u16,
     arguments: &[StateArgument],
 ) -> Result<Seq<Value>, NoMemory>
-    ensures { IfOk result (λ values. values ≡ arguments_for_is m.now a state arguments.now) }
+    ensures { IfOk result (λ values. values ≡ arguments_for m.now a state arguments.now) }
 {
     let mut values = Seq::new(alloc);
     for argument in arguments {
@@ -51,7 +50,7 @@ pub fn state_by<T: Local>(
     local: &mut T,
 ) -> Result<u16, Trouble>
     requires few { HasFew s.machine.now }
-    ensures { DoesAs itself (state_by_is (reading s.entry) a function) result (T.view local.old)
+    ensures { DoesAs itself (state_by (reading s.entry) a function) result (T.view local.old)
         (T.view local.new) }
 {
     let Some(function) = function else {
@@ -73,7 +72,7 @@ pub fn state_set<T: Local>(
     local: &mut T,
 ) -> Result<(), Trouble>
     requires few { HasFew s.machine.now }
-    ensures { DoesAs itself (state_set_is (reading s.entry) a next function) result (T.view local.old)
+    ensures { DoesAs itself (state_set (reading s.entry) a next function) result (T.view local.old)
         (T.view local.new) }
 {
     let Some(function) = function else {
@@ -95,7 +94,7 @@ pub fn permission_set<T: Local>(
     local: &mut T,
 ) -> Result<(), Trouble>
     requires few { HasFew s.machine.now }
-    ensures { DoesAs itself (permission_set_is (reading s.entry) a next function) result (T.view local.old)
+    ensures { DoesAs itself (permission_set (reading s.entry) a next function) result (T.view local.old)
         (T.view local.new) }
 {
     let Some(function) = function else {

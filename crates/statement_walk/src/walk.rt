@@ -1,18 +1,17 @@
 // Statements one after another, and those that have a block.
-ghost use Rattle.acts.specs.DoesAs.{DoesAs};
-ghost use Rattle.body_walk.specs.CallsDo.{CallsDo};
-ghost use Rattle.body_meaning.specs.Bodies.{calls_within};
-ghost use Rattle.body_meaning.specs.Frames.{ended};
-ghost use Rattle.body_meaning.specs.Reading.{reading};
-ghost use Rattle.body_meaning.specs.Statements.{all_done, block_in, enqueued, exec, if_done, peeked};
-ghost use Rattle.statement_walk.specs.Parts.{done_in, made_and_sent, others_of_if, viewed};
+ghost use Rattle.acts.specs.Prelude.{DoesAs};
+ghost use Rattle.body_walk.specs.Prelude.{CallsDo};
+ghost use Rattle.body_meaning.specs.Prelude.{calls_within, ended, reading, all_done, block_in, enqueued, exec, if_done, peeked};
+ghost use Rattle.statement_walk.specs.Prelude.{done_in, made_and_sent, others_of_if, viewed};
 
 use crate::messages::{opened, structure};
 use crate::sends::sent;
-use crate::{asserted, assigned, declared, evaluated, failed, is_true, port, returned, stalled};
 use acts::{Fields, Local, Trouble, Value, front};
 use body_meaning::{Flow, Frame, Scope, Thing, bind};
 use body_walk::{leave, value};
+use plain_walk::{
+    asserted, assigned, declared, evaluated, failed, is_true, port, returned, stalled,
+};
 use ruby_base::Seq;
 use slicc_ast::tree::{Expr, If, Name, Stmt};
 use std::alloc::Global;

@@ -1,7 +1,7 @@
 ghost use Rattle.std.specs.Prelude.{◌≡◌, ◌<◌, ◌≤◌, ◌+◌, ◌-◌, ◌↔◌, IsTrue, IsErrOf, IsOk, IsSome, IfOk, IfErr, IfSome, OnOk, OnErr, None, Some, ◌≢◌, slice_set, vec_len};
 ghost use Rattle.std.specs.Option.{option_copied};
 ghost use Rattle.std.specs.FinMap as map;
-ghost use Rattle.ruby_value.specs.Tbes.{Tbes};
+ghost use Rattle.ruby_value.specs.Prelude.{Tbes};
 
 use ruby_value::{Fields, LineMap, NoMemory, Value};
 use std::alloc::Global;
@@ -32,8 +32,7 @@ pub struct TbeTable {
 impl Model for TbeTable {
     ghost use Rattle.std.specs.Prelude.{◌≤◌};
     ghost use Rattle.std.specs.FinMap as map;
-    ghost use Rattle.ruby_value.specs.Roomy.{Roomy, roomy_code};
-    ghost use Rattle.ruby_value.specs.Tbes.{Tbes, tbes_code};
+    ghost use Rattle.ruby_value.specs.Prelude.{Roomy, roomy_code, Tbes, tbes_code};
 
     ghost Value = { Roomy Tbes };
 

@@ -2,10 +2,8 @@
 use Rattle.std.proofs.Common.{◌≡◌, ℕ, ◌+◌, ◌≤◌, Bool, true, false, List, [], ◌∷◌, ◌++◌, length, map, drop, ap, subst, sym, ◌∙◌, append_assoc, append-nil}
 use Rattle.std.proofs.lemmas.List.{drop_all}
 use Rattle.ruby_outside.specs.declared.sink.Wrote.{Wrote}
-use Rattle.ruby_outside.specs.Put.{IsPut}
-use Rattle.trace_print.specs.Adding.{IsAdded}
-use Rattle.trace_print.specs.Lines.{spaced}
-use Rattle.trace_print.specs.Pieces.{IsLinePut, as_one_piece}
+use Rattle.ruby_outside.specs.Prelude.{IsPut}
+use Rattle.trace_print.specs.Prelude.{IsAdded, spaced, IsLinePut, as_one_piece}
 
 module _ {S : Type 0} (writes : S → List ℕ → Wrote → S → Type 0) where
   -- a line that is known by other bytes

@@ -2,7 +2,7 @@
 use Rattle.std.proofs.Common.{◌≡◌, ℕ, ◌+◌, ◌≤◌, Bool, true, false, List, [], ◌∷◌, ◌++◌, length, map, drop, ap, subst, sym, true≢false}
 use Rattle.std.proofs.lemmas.List.{drop_all}
 use Rattle.ruby_outside.specs.declared.sink.Wrote.{Wrote}
-use Rattle.trace_print.specs.Pieces.{IsLinePut, AreLinesPut, all_put, line_put, line_cut}
+use Rattle.trace_print.specs.Prelude.{IsLinePut, AreLinesPut, all_put, line_put, line_cut}
 
 module _ {S : Type 0} (writes : S → List ℕ → Wrote → S → Type 0) where
   pub one_line : (before after : S) (line : List ℕ) (whole : Bool) → IsLinePut writes before line whole after → AreLinesPut writes before (line ∷ []) whole after

@@ -3,7 +3,7 @@ use Rattle.std.proofs.Common.{◌≡◌, ◌≢◌, ◌==◌, ℕ, Bool, true, f
 use Rattle.std.proofs.lemmas.List.{get_or_append_left, get_or_at, take_all, take_at}
 use Rattle.std.proofs.lemmas.List.Sums.{position_or_len_is}
 use Rattle.std.specs.List.{before_first, position_or_len}
-use Rattle.trace_print.specs.Names.{machine_part}
+use Rattle.trace_print.specs.Prelude.{machine_part}
 
 module _ (p : ℕ → Bool) (xs : List ℕ) where
   none_by : (t : Bool) → nat_lt (position_or_len p xs) (length xs) ≡ t → None ≡ cond t (Some (position_or_len p xs)) None → xs ≡ before_first p xs

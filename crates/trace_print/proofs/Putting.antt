@@ -2,8 +2,8 @@
 use Rattle.std.proofs.Common.{◌≡◌, ℕ, ◌+◌, ◌<◌, Bool, true, false, List, [], ◌++◌, length, take, drop, ap, subst, sym, ◌∙◌, arith, append_assoc, length-append, length-drop}
 use Rattle.std.proofs.lemmas.List.{drop_at, length-take-le, take_at, take-append-drop}
 use Rattle.ruby_outside.specs.declared.sink.Wrote.{Wrote}
-use Rattle.ruby_outside.specs.Put.{IsPut}
-use Rattle.trace_print.specs.Pieces.{IsLinePut, in_pieces, cut_in_piece}
+use Rattle.ruby_outside.specs.Prelude.{IsPut}
+use Rattle.trace_print.specs.Prelude.{IsLinePut, in_pieces, cut_in_piece}
 
 regrouped : (held left rest : List ℕ) (room : ℕ) → (held ++ take room left) ++ (drop room left ++ rest) ≡ held ++ (left ++ rest)
 regrouped held left rest room =

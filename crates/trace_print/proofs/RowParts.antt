@@ -1,9 +1,7 @@
 -- What the line of a row is made of.
 use Rattle.std.proofs.Common.{◌≡◌, ◌==◌, ℕ, false, true≢false, Option, List, [], ◌∷◌, ◌++◌, length, map, refl, ap, ◌∙◌, append_assoc}
 use Rattle.ruby_symbols.specs.declared.machine.MachineSymbols.{MachineSymbols}
-use Rattle.trace_print.specs.Lines.{line_of, spaced}
-use Rattle.trace_print.specs.Names.{action_word}
-use Rattle.trace_print.specs.Rows.{action_words}
+use Rattle.trace_print.specs.Prelude.{line_of, spaced, action_word, action_words}
 
 pub some_actions : (m : Option MachineSymbols) (actions : List ℕ) → (length actions == 0) ≡ false → action_words m actions ≡ map (action_word m) actions
 some_actions m [] some = absurd (true≢false some)

@@ -2,10 +2,10 @@
 use Rattle.std.proofs.Common.{◌≡◌, ℕ, Bool, true, false, List, ◌++◌, Option, take, drop, subst}
 use Rattle.std.proofs.lemmas.List.{take-append-drop}
 use Rattle.ruby_outside.specs.declared.sink.Wrote.{Wrote}
-use Rattle.ruby_outside.specs.Sink.{IsLawfulWrite, IsWritten}
+use Rattle.ruby_outside.specs.Prelude.{IsLawfulWrite, IsWritten}
 use Rattle.ruby_outside.proofs.Growth.{cut_before}
 use Rattle.ruby_outside.proofs.Puts.{nothing_written, put_written, written_on}
-use Rattle.trace_print.specs.Pieces.{IsLinePut, AreLinesPut, text_of}
+use Rattle.trace_print.specs.Prelude.{IsLinePut, AreLinesPut, text_of}
 
 module _ {S : Type 0} (written : S → Option (List ℕ)) (faults : S → ℕ) (writes : S → List ℕ → Wrote → S → Type 0) (lawful : (before : S) (piece : List ℕ) (wrote : Wrote) (after : S) → writes before piece wrote after → IsLawfulWrite (written before) (faults before) piece wrote (written after) (faults after)) where
   -- a front that was written whole, and then what became of the rest

@@ -6,3 +6,4 @@ pub mod Names
 pub mod Pieces
 pub mod Rows
 pub mod Words
+pub mod Prelude

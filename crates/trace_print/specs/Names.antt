@@ -7,7 +7,7 @@ use Rattle.ruby_symbols.specs.declared.machine.ActionSymbol.{ActionSymbol}
 use Rattle.ruby_symbols.specs.declared.machine.MachineSymbols.{MachineSymbols}
 use Rattle.ruby_symbols.specs.declared.symbols.Symbols.{Symbols}
 use Rattle.ruby_symbols.specs.declared.types.EnumerationSymbol.{EnumerationSymbol}
-use Rattle.ruby_symbols.specs.Names.{machine_named}
+use Rattle.ruby_symbols.specs.Prelude.{machine_named}
 use Rattle.trace_print.specs.Lines.{or_dash}
 
 -- what stands before the first dash of a controller's name

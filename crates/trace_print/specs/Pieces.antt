@@ -4,7 +4,7 @@
 use Rattle.std.specs.Prelude.{ℕ, ◌<◌, ◌≤◌, Bool, true, false, List, [], ◌∷◌, length, take, drop}
 use Rattle.std.specs.List.{concat}
 use Rattle.ruby_outside.specs.declared.sink.Wrote.{Wrote}
-use Rattle.ruby_outside.specs.Put.{IsPut}
+use Rattle.ruby_outside.specs.Prelude.{IsPut}
 
 -- the sink before, the line, whether it was written whole, and the sink after
 pub data IsLinePut {S : Type 0} (writes : S → List ℕ → Wrote → S → Type 0) : S → List ℕ → Bool → S → Type 0 where

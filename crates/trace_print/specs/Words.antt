@@ -1,7 +1,7 @@
 -- The words of a line before they are bytes.
 use Rattle.std.specs.Prelude.{ℕ, List, decimal}
-use Rattle.trace_print.specs.declared.words.Word.{Word}
-use Rattle.trace_print.specs.declared.words.Word.TheVariants.{Bytes, Number, Address, Numbered, Place}
+use Rattle.trace_print.specs.declared.line.Word.{Word}
+use Rattle.trace_print.specs.declared.line.Word.TheVariants.{Bytes, Number, Address, Numbered, Place}
 use Rattle.trace_print.specs.Lines.{hexadecimal, numbered, place}
 
 abbrev pub word_bytes : Word → List ℕ

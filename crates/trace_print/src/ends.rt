@@ -1,16 +1,15 @@
 // The lines that follow a run's journal.
 ghost use Rattle.std.specs.Prelude.{[], ◌∷◌, ◌++◌, decimal, map};
-ghost use Rattle.ruby_outside.specs.Sink.{IsWritten};
-ghost use Rattle.slicc_plan.specs.SymbolsOf.{symbols_of};
+ghost use Rattle.ruby_outside.specs.Prelude.{IsWritten};
+ghost use Rattle.slicc_plan.specs.Prelude.{symbols_of};
 ghost use Rattle.trace_print.specs.Adding.{IsAdded};
 ghost use Rattle.trace_print.specs.Ends.{account_line, final_line, rest_lines, verdict_words};
 ghost use Rattle.trace_print.specs.Lines.{line_of, spaced};
 ghost use Rattle.trace_print.specs.Pieces.{AreLinesPut, IsLinePut, text_of};
 ghost use Rattle.trace_print.specs.Words.{word_bytes};
 
-use crate::line::{Held, end_line};
-use crate::names::{controller_machine, controller_word, state_word};
-use crate::words::{Word, add_words, begin_line, write_line};
+use crate::line::{Held, Word, add_words, begin_line, end_line, write_line};
+use crate::rows::{controller_machine, controller_word, state_word};
 use arrayvec::ArrayVec;
 use ruby_base::{Seq, Text};
 use ruby_outside::Sink;

@@ -1,16 +1,12 @@
 // The lines of a run's journal.
 ghost use Rattle.std.specs.Prelude.{◌≡◌, ◌∷◌, []};
 ghost use Rattle.std.specs.Option.{option_copied};
-ghost use Rattle.ruby_outside.specs.Sink.{IsWritten};
-ghost use Rattle.slicc_plan.specs.SymbolsOf.{symbols_of};
-ghost use Rattle.trace_print.specs.Entries.{end_lines, entry_lines, fault_word, fired_line, stop_line};
-ghost use Rattle.trace_print.specs.Lines.{hexadecimal, known};
-ghost use Rattle.trace_print.specs.Names.{event_word, state_word};
-ghost use Rattle.trace_print.specs.Pieces.{AreLinesPut, IsLinePut, text_of};
-ghost use Rattle.trace_print.specs.Words.{word_bytes};
+ghost use Rattle.ruby_outside.specs.Prelude.{IsWritten};
+ghost use Rattle.slicc_plan.specs.Prelude.{symbols_of};
+ghost use Rattle.trace_print.specs.Prelude.{end_lines, entry_lines, fault_word, fired_line, stop_line, hexadecimal, known, event_word, state_word, AreLinesPut, IsLinePut, text_of, word_bytes};
 
-use crate::names::{controller_machine, controller_word, event_word, state_word};
-use crate::words::{Word, write_line};
+use crate::line::{Word, write_line};
+use crate::rows::{controller_machine, controller_word, event_word, state_word};
 use itoa::Buffer;
 use ruby_base::{Seq, Text};
 use ruby_outside::Sink;

@@ -4,17 +4,13 @@
 
 mod ends;
 mod entries;
-mod hexadecimal;
 mod laws;
 mod line;
-mod names;
 mod rows;
-mod words;
 
 pub use ends::{RunText, write_rest, write_verdict};
 pub use entries::{fault_word, write_entry};
 pub use laws::machine_is_found_by_name;
-pub use names::{controller_machine, state_word};
-pub use rows::write_rows;
+pub use line::{Word, write_line};
+pub use rows::{controller_machine, state_word, write_rows};
 pub use ruby_base::{Seq, Text};
-pub use words::{Word, write_line};

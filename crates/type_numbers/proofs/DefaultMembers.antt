@@ -6,9 +6,8 @@ use Rattle.std.specs.Option.{option_map}
 use Rattle.std.proofs.lemmas.List.Folds.{find_at}
 use Rattle.std.proofs.lemmas.Option.{cond_some, slice_get-map}
 use Rattle.slicc_ast.specs.declared.tree.item.Tree.{Tree}
-use Rattle.slicc_plan.specs.TypeNumbers.{ScopedDeclaration, declared_enumerations, declares, default_found, default_member}
-use Rattle.slicc_plan.specs.Types.{KnownType}
-use Rattle.type_numbers.specs.Numbered.{default_of}
+use Rattle.slicc_plan.specs.Prelude.{ScopedDeclaration, declared_enumerations, declares, default_found, default_member, KnownType}
+use Rattle.type_numbers.specs.Prelude.{default_of}
 
 mapped_there : {X : Type 0} (p : X → Bool) (f : X → ℕ) (xs : List X) (n : ℕ) → position p xs ≡ Some n → option_map f (find p xs) ≡ slice_get (map f xs) n
 mapped_there p f xs n is =

@@ -2,8 +2,7 @@
 use Rattle.std.proofs.Common.{◌≡◌, ◌++◌, ℕ, false, List, [], ◌∷◌, refl, sym, ◌∙◌, ap, codes}
 use Rattle.std.specs.List.{list_any}
 use Rattle.std.specs.Str.{bytes_eq}
-use Rattle.slicc_plan.specs.Declarations.{Scope, everywhere, within}
-use Rattle.slicc_plan.specs.Values.{default_name, default_names}
+use Rattle.slicc_plan.specs.Prelude.{Scope, everywhere, within, default_name, default_names}
 use Rattle.declaration_rules.proofs.DefaultNames.{bytes_eq-swapped, parts_joined}
 use Rattle.declared_types.proofs.NameParts.{same_prefix}
 

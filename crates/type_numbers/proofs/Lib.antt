@@ -1,4 +1,3 @@
 pub mod DefaultWords
 pub mod Lists
 mod DefaultMembers
-pub mod AllPorts

@@ -1,19 +1,16 @@
 -- Lists of what is seen, and the parts of what a machine declares.
 use Rattle.std.proofs.Common.{◌≡◌, ◌++◌, ◌+◌, ◌<◌, ℕ, Bool, Bor, not, cond, length, Option, None, Some, List, [], ◌∷◌, filter, flat_map, map, refl, sym, ◌∙◌, ap}
-use Rattle.std.specs.Prelude.{IfSome, find, position}
-use Rattle.std.specs.Option.{option_or}
-use Rattle.std.proofs.lemmas.List.Folds.{find-append}
+use Rattle.std.specs.Prelude.{IfSome, position}
 use Rattle.std.specs.List.{prefix_len}
 use Rattle.std.proofs.lemmas.List.Elements.{filter-append}
 use Rattle.std.proofs.lemmas.List.{length-map, map-append}
 use Rattle.std.proofs.lemmas.List.Quantifiers.{position-Some}
 use Rattle.slicc_ast.specs.declared.tree.machine.Machine.{Machine}
 use Rattle.slicc_ast.specs.declared.tree.machine.Parameter.{Parameter}
-use Rattle.slicc_plan.specs.Declarations.{machine, named_declarations, parameter, within}
-use Rattle.slicc_plan.specs.TypeNumbers.{made_in, made_with_its_own}
+use Rattle.slicc_plan.specs.Prelude.{machine, named_declarations, parameter, within, made_in, made_with_its_own}
 use Rattle.type_numbers.specs.declared.numbering.TypeSort.{TypeSort}
 use Rattle.type_numbers.specs.declared.numbering.TypeSort.TheVariants.{Enumeration, Structure}
-use Rattle.type_numbers.specs.Numbered.{has_sort}
+use Rattle.type_numbers.specs.Prelude.{has_sort}
 
 prefix_len_map : {X Y : Type 0} (p : Y → Bool) (f : X → Y) (xs : List X) → prefix_len p (map f xs) ≡ prefix_len (λ x. p (f x)) xs
 prefix_len_map p f [] = refl
@@ -53,9 +50,6 @@ machine_types Structure m = its_own Structure m
 -- what is put into an empty list
 pub from_nothing : {X Y : Type 0} (f : X → Y) (new : List Y) (old : List X) (more : List Y) → old ≡ [] → new ≡ map f old ++ more → new ≡ more
 from_nothing f new old more e g = g ∙ ap (λ xs. map f xs ++ more) e
-
-pub found_first : {X : Type 0} (p : X → Bool) (xs ys : List X) (o : Option X) → o ≡ find p xs → option_or o (find p ys) ≡ find p (xs ++ ys)
-found_first p xs ys o e = ap (λ q. option_or q (find p ys)) e ∙ sym (find-append p xs ys)
 
 -- a place that is found is one of the list
 pub position_within : {X : Type 0} (p : X → Bool) (xs : List X) (o : Option ℕ) → o ≡ position p xs → IfSome o (λ n. n < length xs)

@@ -1,4 +1,4 @@
 pub mod Fields
 pub mod MessageTypes
 pub mod Numbered
-pub mod Ports
+pub mod Prelude

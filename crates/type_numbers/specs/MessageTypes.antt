@@ -3,10 +3,7 @@
 use Rattle.std.specs.Prelude.{ℕ, cond, Option, None, Some, List, find}
 use Rattle.std.specs.Option.{option_or}
 use Rattle.slicc_plan.specs.declared.built_in.BuiltInType.TheVariants.{Request}
-use Rattle.slicc_plan.specs.Buffers.{BufferIn, Place, own, to_network, from_network, PortOn}
-use Rattle.slicc_plan.specs.MessageTypes.{is_on, is_on_network, port_message}
-use Rattle.slicc_plan.specs.Networks.{is_mandatory}
-use Rattle.slicc_plan.specs.Types.{KnownType, built_in}
+use Rattle.slicc_plan.specs.Prelude.{BufferIn, Place, own, to_network, from_network, PortOn, is_on, is_on_network, port_message, is_mandatory, KnownType, built_in}
 
 abbrev pub network_type_among : List PortOn → ℕ → Option KnownType
 network_type_among ports network = port_message (find (λ (p : PortOn). is_on_network network p.buffer.place) ports)

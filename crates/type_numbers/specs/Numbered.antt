@@ -1,10 +1,8 @@
 -- Declarations of types, as the definitions of a protocol's meaning see them, and the lists by which types are numbered.
 use Rattle.std.specs.Prelude.{◌≡◌, ◌≤◌, ℕ, Bool, List, length, map}
 use Rattle.slicc_ast.specs.declared.tree.item.Tree.{Tree}
-use Rattle.slicc_plan.specs.Declarations.{Declaration, machines_of}
-use Rattle.slicc_plan.specs.Limits.{is_counted_structure, is_enumeration}
-use Rattle.slicc_plan.specs.TypeNumbers.{ScopedDeclaration, declared_enumerations, declared_structures, own_default}
-use Rattle.declared_types.specs.Lent.{declaration_of, scope_of}
+use Rattle.slicc_plan.specs.Prelude.{Declaration, machines_of, is_counted_structure, is_enumeration, ScopedDeclaration, declared_enumerations, declared_structures, own_default}
+use Rattle.declared_types.specs.Prelude.{declaration_of, scope_of}
 use Rattle.type_numbers.specs.declared.numbering.Lists.{Lists}
 use Rattle.type_numbers.specs.declared.numbering.Scoped.{Scoped}
 use Rattle.type_numbers.specs.declared.numbering.TypeNumbers.{TypeNumbers}

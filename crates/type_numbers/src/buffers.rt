@@ -1,96 +1,176 @@
-//! The buffers of a machine.
-ghost use Rattle.std.specs.Prelude.{◌≡◌, unwrap_or};
-ghost use Rattle.std.specs.Option.{option_map};
-ghost use Rattle.slicc_plan.specs.declared.built_in.BuiltInType.TheVariants.{Buffer};
-ghost use Rattle.slicc_plan.specs.Buffers.{attribute_number, buffer_in, buffer_of, place_by, virtual_network};
-ghost use Rattle.slicc_plan.specs.Attributes.{first_attribute};
-ghost use Rattle.slicc_plan.specs.Declarations.{within};
-ghost use Rattle.slicc_plan.specs.Types.{is_built_in as is_built_in_of, type_in};
-ghost use Rattle.declared_types.specs.Lent.{declaration_of};
-ghost use Rattle.type_numbers.specs.Ports.{buffer_seen, place_seen};
-ghost use Rattle.type_numbers.specs.Numbered.{trees_of};
+//! What the declarations of buffers say: their order, where their messages come from or go to, and the types and receivers of these.
+ghost use Rattle.std.specs.Prelude.{◌≡◌, IfOk, codes, Some, filter, position, find, map};
+ghost use Rattle.std.specs.Option.{option_copied, option_map};
+ghost use Rattle.slicc_plan.specs.Prelude.{attributes_of, buffer_place, is_ordered, member, is_field, receivers_field, is_destination, is_on, is_on_network, port_message};
+ghost use Rattle.declared_types.specs.Prelude.{declaration_of, type_of, scope_of};
+ghost use Rattle.machine_table.specs.Prelude.{place_seen, buffer_seen, port_seen};
+ghost use Rattle.type_numbers.specs.Prelude.{trees_of, network_type_among, own_type_among, type_among};
+ghost use Rattle.slicc_ast.specs.declared.tree.declaration.Member.{Member};
 
-use crate::declarations::type_in;
 use crate::numbering::TypeNumbers;
-use declaration_rules::{is_built_in, number_value};
-use declared_types::{Declared, Scope, first_attribute, has_attribute};
-use slicc_ast::tree::{Machine, Name, Pairs, TypeName};
-use slicc_plan::{BuiltInType, Span};
+use crate::numbers::kept;
+use declared_types::{Declared, KnownType, Scope, Scopes, has_attribute};
+use machine_table::{BufferIn, Place, PortOn, is_destination, is_mandatory};
+use ruby_base::NoMemory;
+use ruby_value::BufferPlace;
+use slicc_ast::tree::{Member, Pairs};
+use slicc_plan::BuiltInType;
 
-/// Where a buffer's messages come from or go to.
-#[derive(Clone, Copy)]
-pub enum Place {
-    /// They stay in the machine.
-    Own,
-    ToNetwork(u64),
-    FromNetwork(u64),
-}
-
-/// A buffer that a machine declares.
-#[derive(Clone, Copy)]
-pub struct BufferIn<'a> {
-    pub name: &'a Name,
-    pub place: Place,
-    /// The whole declaration.
-    pub span: Span,
-}
-
-fn virtual_network(pairs: &Pairs) -> u64
-    ensures { result ≡ virtual_network pairs.now }
-{
-    match first_attribute(pairs, b"virtual_network") {
-        None => 0,
-        Some(a) => match number_value(a.value) {
-            None => 0,
-            Some(n) => n,
-        },
-    }
-}
-
-fn place_by(pairs: &Pairs) -> Place
-    ensures { place_seen result ≡ place_by pairs.now }
-{
-    if has_attribute(pairs, b"network", b"To") {
-        return Place::ToNetwork(virtual_network(pairs));
-    }
-    if has_attribute(pairs, b"network", b"From") {
-        return Place::FromNetwork(virtual_network(pairs));
-    }
-    Place::Own
-}
-
-fn buffer_of<'a>(
-    types: &TypeNumbers<'a>,
-    m: &'a Machine,
-    kind: &TypeName,
-    name: &'a Name,
-    pairs: &Pairs,
-    span: Span,
-) -> Option<BufferIn<'a>>
-    ensures { option_map buffer_seen result ≡ buffer_of (is_built_in_of Buffer (type_in (trees_of types.now) (within m.now) kind.now.text)) name.entry.now pairs.now span }
-{
-    let t = type_in(&types.scopes, Scope::Within(m), &kind.text);
-    if !is_built_in(BuiltInType::Buffer, t) {
-        return None;
-    }
-    Some(BufferIn {
-        name,
-        place: place_by(pairs),
-        span,
-    })
-}
-
-/// The buffer that a declaration of a machine declares, where it declares one.
-pub fn buffer_in<'a>(
-    types: &TypeNumbers<'a>,
-    m: &'a Machine,
-    d: Declared<'a>,
-) -> Option<BufferIn<'a>>
-    ensures { option_map buffer_seen result ≡ buffer_in (trees_of types.now) m.now (declaration_of d.entry) }
+fn attributes_of<'a>(d: Declared<'a>) -> Option<&'a Pairs>
+    ensures { option_copied result ≡ attributes_of (declaration_of d.entry) }
 {
     match d {
-        Declared::Parameter(p) => buffer_of(types, m, &p.kind, &p.name, &p.pairs, p.span),
-        Declared::Object(o) => buffer_of(types, m, &o.kind, &o.name, &o.pairs, o.span),
+        Declared::Parameter(p) => Some(&p.pairs),
+        Declared::Object(o) => Some(&o.pairs),
         _ => None,
+    }
+}
+
+/// Whether a buffer's declaration calls it ordered.
+pub fn is_ordered(d: Declared<'_>) -> bool
+    ensures { result ≡ is_ordered (attributes_of (declaration_of d.entry)) }
+{
+    match attributes_of(d) {
+        None => false,
+        Some(pairs) => has_attribute(pairs, b"ordered", b"true"),
+    }
+}
+
+// The number of a network as setups keep it. A protocol's are below 16.
+fn kept_network(network: u64) -> Result<u16, NoMemory>
+    ensures { IfOk result (λ kept. kept ≡ network) }
+{
+    if network > u16::MAX as u64 {
+        return Err(NoMemory);
+    }
+    Ok(network as u16)
+}
+
+/// Where the messages of a buffer of this place come from or go to, where they are of this type.
+pub fn buffer_place<'a>(
+    types: &TypeNumbers<'a>,
+    place: Place,
+    t: Option<KnownType<'a>>,
+) -> Result<BufferPlace, NoMemory>
+    ensures { IfOk result (λ p. p ≡ buffer_place (trees_of types.now) (place_seen place) (option_map type_of t.entry)) }
+{
+    match place {
+        Place::Own => Ok(BufferPlace::Local),
+        Place::ToNetwork(v) => {
+            let network = kept_network(v)?;
+            let destination = receivers_field(types, t)?;
+            Ok(BufferPlace::To {
+                network,
+                destination,
+            })
+        }
+        Place::FromNetwork(v) => Ok(BufferPlace::From {
+            network: kept_network(v)?,
+        }),
+    }
+}
+
+fn is_field(m: &Member) -> bool
+    ensures { result ≡ is_field (member m.now) }
+{
+    matches!(m, Member::Field { .. })
+}
+
+// The number of the first field among these members that names the receivers.
+fn destination_among<'a>(scopes: &Scopes<'a>, scope: Scope<'a>, members: &[Member]) -> Option<usize>
+    ensures { result ≡ position (is_destination scopes.now.trees.now (scope_of scope.entry)) (filter (λ (m : Member). is_field (member m)) members.now) }
+{
+    members
+        .iter()
+        .filter(|m| is_field(*m))
+        .position(|m| is_destination(scopes, scope, m))
+}
+
+fn receivers_of<'a>(types: &TypeNumbers<'a>, t: KnownType<'a>) -> Result<Option<u16>, NoMemory>
+    ensures { IfOk result (λ field. field ≡ receivers_field (trees_of types.now) (Some (type_of t.entry))) }
+{
+    match t {
+        KnownType::Structure(scope, s) => kept(destination_among(&types.scopes, scope, &s.members)),
+        KnownType::BuiltIn(_) | KnownType::Enumeration(..) | KnownType::States(..) => Ok(None),
+    }
+}
+
+/// The number of the field that names the receivers of a message of a type, where there is a type.
+pub fn receivers_field<'a>(
+    types: &TypeNumbers<'a>,
+    t: Option<KnownType<'a>>,
+) -> Result<Option<u16>, NoMemory>
+    ensures { IfOk result (λ field. field ≡ receivers_field (trees_of types.now) (option_map type_of t.entry)) }
+{
+    match t {
+        None => Ok(None),
+        Some(t) => receivers_of(types, t),
+    }
+}
+
+fn is_on_network(network: u64, place: Place) -> bool
+    ensures { result ≡ is_on_network network (place_seen place) }
+{
+    match place {
+        Place::Own => false,
+        Place::ToNetwork(n) => n == network,
+        Place::FromNetwork(n) => n == network,
+    }
+}
+
+// The buffer is of the machine of this number.
+fn is_on(number: u16, b: BufferIn<'_>, p: &PortOn<'_>) -> bool
+    ensures { result ≡ is_on number (buffer_seen b.entry) (port_seen p.now) }
+{
+    p.machine == number && p.buffer.name.text.as_slice() == b.name.text.as_slice()
+}
+
+// The type of the messages of the first port on this network.
+fn network_message<'a>(ports: &[PortOn<'a>], network: u64) -> Option<KnownType<'a>>
+    ensures { option_map type_of result ≡ network_type_among (map port_seen ports.now) network }
+{
+    for p in ports {
+        if is_on_network(network, p.buffer.place) {
+            return Some(p.message);
+        }
+    }
+    None
+}
+
+// The type of the messages of the first port on this buffer of a machine's own.
+fn own_message<'a>(ports: &[PortOn<'a>], number: u16, b: BufferIn<'_>) -> Option<KnownType<'a>>
+    ensures { option_map type_of result ≡ port_message (find (is_on number (buffer_seen b.entry)) (map port_seen ports.now)) }
+{
+    for p in ports {
+        if is_on(number, b, p) {
+            return Some(p.message);
+        }
+    }
+    None
+}
+
+fn own_type<'a>(ports: &[PortOn<'a>], number: u16, b: BufferIn<'_>) -> Option<KnownType<'a>>
+    ensures { option_map type_of result ≡ own_type_among (map port_seen ports.now) number (buffer_seen b.entry) }
+{
+    match own_message(ports, number, b) {
+        Some(t) => Some(t),
+        None => {
+            if is_mandatory(b) {
+                Some(KnownType::BuiltIn(BuiltInType::Request))
+            } else {
+                None
+            }
+        }
+    }
+}
+
+/// The type of the messages of a buffer of the machine of this number, where these are the ports of all machines.
+pub fn message_type<'a>(ports: &[PortOn<'a>], number: u16, b: BufferIn<'_>) -> Option<KnownType<'a>>
+    ensures { option_map type_of result ≡ type_among (map port_seen ports.now) number (buffer_seen b.entry) }
+{
+    match b.place {
+        Place::Own => own_type(ports, number, b),
+        Place::ToNetwork(network) => network_message(ports, network),
+        Place::FromNetwork(network) => network_message(ports, network),
     }
 }

@@ -1,11 +1,10 @@
 //! The enumerations and structures of a protocol, in the order of their numbers.
 ghost use Rattle.std.specs.Prelude.{◌≡◌, ◌≤◌, ◌++◌, [], ◌∷◌, IfOk, OnOk, filter, flat_map, length, map};
-ghost use Rattle.slicc_plan.specs.Declarations.{machine, named_declarations, within};
-ghost use Rattle.slicc_plan.specs.TypeNumbers.{made_in, made_with_its_own, scoped_declarations};
-ghost use Rattle.declared_types.specs.Lent.{declaration_of, declarations_of, scope_of};
+ghost use Rattle.slicc_plan.specs.Prelude.{machine, named_declarations, within, made_in, made_with_its_own, scoped_declarations};
+ghost use Rattle.declared_types.specs.Prelude.{declaration_of, declarations_of, scope_of};
 ghost use Rattle.type_numbers.specs.Numbered.{AreLists, AreNumbered, has_sort, is_of_sort, scoped_of, trees_of};
 
-use crate::defaults::defaults_of;
+use crate::members::defaults_of;
 use declared_types::{Declared, Scope, Scopes, declared, is_external};
 use machine_table::machines;
 use ruby_base::{NoMemory, Seq};
@@ -122,15 +121,7 @@ fn add_with_its_own<'a>(
 {
     match d {
         Declared::Machine(m) => add_machine(list, sort, m),
-        Declared::Enumeration(_)
-        | Declared::Structure(_)
-        | Declared::States(_)
-        | Declared::Parameter(_)
-        | Declared::Object(_)
-        | Declared::OutPort(_)
-        | Declared::InPort(_)
-        | Declared::Action(_)
-        | Declared::Function(_) => add_if(list, sort, Scope::Everywhere, d),
+        _ => add_if(list, sort, Scope::Everywhere, d),
     }
 }
 

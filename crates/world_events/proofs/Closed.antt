@@ -6,11 +6,7 @@ use Rattle.run_journal.specs.declared.entry.Entry.{Entry}
 use Rattle.run_journal.specs.declared.event.Event.{Event}
 use Rattle.run_journal.specs.declared.event.Event.TheVariants.{Turn}
 use Rattle.run_journal.specs.declared.verdict.Verdict.{Verdict}
-use Rattle.protocol_runs.specs.Change.{Change, Closes, Moves, Turns}
-use Rattle.protocol_runs.specs.RunRules.{Rules}
-use Rattle.protocol_runs.specs.Run.{HasEnded, IsRun, Ran}
-use Rattle.protocol_runs.specs.Step.{Stepped, is_busy, step}
-use Rattle.protocol_runs.specs.World.{Place, World, is_due, is_held}
+use Rattle.protocol_runs.specs.Prelude.{Change, Closes, Moves, Turns, Rules, HasEnded, IsRun, Ran, Stepped, is_busy, step, Place, World, is_due, is_held}
 use Rattle.protocol_runs.proofs.Runs.{hold-along}
 use Rattle.world_events.proofs.Holders.{turn-nobody}
 

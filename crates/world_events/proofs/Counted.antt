@@ -8,23 +8,17 @@ use Rattle.std.proofs.lemmas.List.Sums.{sum_by-append, sum_by-cons}
 use Rattle.run_journal.specs.declared.entry.Entry.{Entry}
 use Rattle.run_journal.specs.declared.summary.Account.{Account}
 use Rattle.protocol_runs.specs.Account as runs
-use Rattle.protocol_runs.specs.RunRules.{Mailed, Rules}
-use Rattle.protocol_runs.specs.Verdict.{held_mail}
-use Rattle.ctl_face.specs.Ctl.{Ctl, InboxMessage}
+use Rattle.protocol_runs.specs.Prelude.{Mailed, Rules, held_mail, Meaning, mailed, rules, Setting}
+use Rattle.ctl_face.specs.Prelude.{Ctl, InboxMessage}
 use Rattle.ctl_mail.specs.Census as census
-use Rattle.ctl_store.specs.Kept.{ctl_of}
-use Rattle.protocol_runs.specs.Meaning.{Meaning}
-use Rattle.protocol_runs.specs.Rules.{mailed, rules}
-use Rattle.protocol_runs.specs.Setting.{Setting}
-use Rattle.sequencer.specs.Drive.{Drive}
-use Rattle.sequencer.specs.Seats.{Seat}
+use Rattle.ctl_store.specs.Prelude.{ctl_of}
+use Rattle.sequencer.specs.Prelude.{Drive, Seat}
 use Rattle.world_state.specs.declared.place.Keeper.{Keeper}
 use Rattle.world_state.specs.declared.place.Keeper.TheVariants.{World, Worker}
 use Rattle.world_state.specs.declared.place.Place.{Place}
-use Rattle.world_state.specs.Places.{Made, made_by, made_in, place_with, places_with}
-use Rattle.world_events.specs.Accounted.{AreCountsOf, mail_by, mail_in}
+use Rattle.world_state.specs.Prelude.{Made, made_by, made_in, place_with, places_with, IsNobody}
+use Rattle.world_events.specs.Prelude.{AreCountsOf, mail_by, mail_in}
 use Rattle.world_events.specs.declared.accounting.Counts.{Counts}
-use Rattle.world_state.specs.States.{IsNobody}
 
 -- a message is of a kind as the account of a run has it where the census has it so
 queued-same : (o : Option ℕ) (recycled : Bool) → (not (is_some o) && not recycled) ≡ (is_none o && not recycled)

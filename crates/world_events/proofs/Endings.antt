@@ -2,23 +2,16 @@
 use Rattle.std.proofs.Common.{◌≡◌, ℕ, List, Option, None, Some, IsSome, sym, ◌∙◌, subst}
 use Rattle.slicc_ast.specs.declared.tree.item.Tree.{Tree}
 use Rattle.run_journal.specs.declared.summary.Account.{Account}
-use Rattle.protocol_runs.specs.Account.{account}
-use Rattle.protocol_runs.specs.Run.{HasEnded, IsRun}
+use Rattle.protocol_runs.specs.Prelude.{account, HasEnded, IsRun, Meaning, rules, Setting}
 use Rattle.ruby_topology.specs.declared.topology.Topology.{Topology}
-use Rattle.ctl_face.specs.Ctl.{Ctl}
-use Rattle.protocol_meaning.specs.Meaning.{meaning_of}
-use Rattle.protocol_runs.specs.Meaning.{Meaning}
-use Rattle.protocol_runs.specs.Rules.{rules}
-use Rattle.protocol_runs.specs.Setting.{Setting}
-use Rattle.sequencer.specs.Drive.{Drive}
-use Rattle.sequencer.specs.Seats.{Seat}
-use Rattle.world_state.specs.Places.{made_in}
+use Rattle.ctl_face.specs.Prelude.{Ctl}
+use Rattle.protocol_meaning.specs.Prelude.{meaning_of}
+use Rattle.sequencer.specs.Prelude.{Drive, Seat}
+use Rattle.world_state.specs.Prelude.{made_in, IsNobody, world_of}
 use Rattle.world_state.specs.declared.state.State.{State}
-use Rattle.world_state.specs.States.{IsNobody, world_of}
 use Rattle.world_state.proofs.Readings.{any-held, none-held}
-use Rattle.world_events.specs.declared.limits.RunLimits.{RunLimits}
-use Rattle.world_events.specs.Data.{view_of}
-use Rattle.world_events.specs.Worlds.{InWorld, WorldView, rules_in, setting_in}
+use Rattle.world_events.specs.declared.world.RunLimits.{RunLimits}
+use Rattle.world_events.specs.Prelude.{view_of, InWorld, WorldView, rules_in, setting_in}
 use Rattle.world_events.proofs.Closed.{ended-nobody}
 use Rattle.world_events.proofs.ReadOff.{in-world}
 

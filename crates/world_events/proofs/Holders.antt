@@ -4,11 +4,7 @@ use Rattle.std.specs.List.{list_any}
 use Rattle.std.proofs.lemmas.Option.{same_Some}
 use Rattle.run_journal.specs.declared.event.Event.{Event}
 use Rattle.ruby_value.specs.declared.message.Delivery.{Delivery}
-use Rattle.protocol_runs.specs.Change.{Change, Closes, Moves, Turns}
-use Rattle.protocol_runs.specs.RunRules.{Rules}
-use Rattle.protocol_runs.specs.Step.{Stepped, after_driver, begun_place, changed_from, driver_turn_in, next_in, next_world, step, verdict_in, with_controller, with_deliveries, with_delivery, with_delivery_at, with_driver_turn}
-use Rattle.protocol_runs.specs.WakesOnce.{is_turn}
-use Rattle.protocol_runs.specs.World.{Place, World, is_held}
+use Rattle.protocol_runs.specs.Prelude.{Change, Closes, Moves, Turns, Rules, Stepped, after_driver, begun_place, changed_from, driver_turn_in, next_in, next_world, step, verdict_in, with_controller, with_deliveries, with_delivery, with_delivery_at, with_driver_turn, is_turn, Place, World, is_held}
 use Rattle.protocol_runs.proofs.Steps.{move-quiet, step-changes}
 use Rattle.run_journal.specs.declared.verdict.Verdict.{Verdict}
 

@@ -11,53 +11,33 @@ use Rattle.ruby_value.specs.declared.setup.Sizes.{Sizes}
 use Rattle.ruby_symbols.specs.declared.machine.MachineSymbols.{MachineSymbols}
 use Rattle.slicc_ast.specs.declared.tree.item.Tree.{Tree}
 use Rattle.slicc_ast.specs.declared.tree.machine.Machine.{Machine}
-use Rattle.slicc_plan.specs.Declarations.{machines_of}
-use Rattle.slicc_plan.specs.Setups.{AreSizesOf, setup_of as setup_in}
-use Rattle.slicc_plan.specs.SymbolsOf.{symbols_of}
-use Rattle.slicc_plan.specs.SymbolsOfMachines.{machine_symbols}
-use Rattle.protocol_runs.specs.World.{Place}
+use Rattle.slicc_plan.specs.Prelude.{machines_of, AreSizesOf, setup_of as setup_in, symbols_of, machine_symbols}
+use Rattle.protocol_runs.specs.Prelude.{Place, HasQueue, FitsRun, machine_of, setup_of, opening_controllers, Setting}
 use Rattle.protocol_runs.proofs.Places.{mapped-from}
-use Rattle.ctl_face.specs.Ctl.{Ctl}
-use Rattle.ctl_face.specs.Fits.{Fits, last_cycle}
-use Rattle.ctl_face.specs.Opening.{opening_ctl}
-use Rattle.ctl_face.specs.RoutesFit.{AreNumbered, IsOfMachine}
-use Rattle.ctl_store.specs.Kept.{ctl_of, machine_of as store_machine}
+use Rattle.ctl_face.specs.Prelude.{Ctl, Fits, last_cycle, opening_ctl, AreNumbered, IsOfMachine}
+use Rattle.ctl_store.specs.Prelude.{ctl_of, machine_of as store_machine}
 use Rattle.ruby_topology.specs.declared.topology.Seat.{Seat as SeatOf}
 use Rattle.ruby_topology.specs.declared.topology.Topology.{Topology}
-use Rattle.ruby_topology.specs.Topology.{members_from, name_of, ranges_from}
+use Rattle.ruby_topology.specs.Prelude.{members_from, name_of, ranges_from}
 use Rattle.ruby_topology.proofs.Totals.{length_of_members}
-use Rattle.protocol_runs.specs.IsSetting.{HasQueue}
-use Rattle.protocol_runs.specs.Kept.{FitsRun}
-use Rattle.protocol_runs.specs.Machines.{machine_of, setup_of}
-use Rattle.protocol_runs.specs.Rules.{opening_controllers}
-use Rattle.protocol_runs.specs.Setting.{Setting}
 use Rattle.protocol_runs.proofs.Controllers.{and-some, one-of, opened, opened-count, some-and}
 use Rattle.protocol_runs.proofs.Ranges.{below-free, machine-is, machine-says, machine-there}
-use Rattle.protocol_meaning.specs.Setting.{setting_of}
-use Rattle.protocol_meaning.specs.FitsPlan.{AreSizesIn, AtSetup, FitsPlan, IsSeat}
-use Rattle.protocol_meaning.specs.Setups.{ranges_of, setups_of}
+use Rattle.protocol_meaning.specs.Prelude.{setting_of, AreSizesIn, AtSetup, FitsPlan, IsSeat, ranges_of, setups_of, seat_setup, seat_setups, meaning_of}
 use Rattle.slicc_plan.proofs.Machines.{symbols_counted}
 use Rattle.protocol_meaning.proofs.ByNumber.{setups_at, setups_counted, symbols_found}
 use Rattle.protocol_meaning.proofs.Numbers.{ranges_counted}
 use Rattle.protocol_meaning.proofs.Places.{all_at, all_from_gets}
 use Rattle.protocol_meaning.proofs.Sizes.{sizes_have_room}
 use Rattle.world_state.specs.declared.place.Kept.{Kept}
-use Rattle.world_state.specs.Places.{made_for}
+use Rattle.world_state.specs.Prelude.{made_for, setups_in, IsKept, IsMadeFor}
 use Rattle.world_state.specs.declared.seat.SeatAt.{SeatAt}
-use Rattle.world_state.specs.Seated.{setups_in}
 use Rattle.world_state.specs.declared.state.State.{State}
-use Rattle.world_state.specs.States.{IsKept, IsMadeFor}
 use Rattle.world_state.proofs.Openings.{opens-kept}
 use Rattle.run_journal.specs.declared.entry.Entry.{Entry}
 use Rattle.run_journal.specs.declared.event.Event.{Event}
-use Rattle.protocol_meaning.specs.Seats.{seat_setup, seat_setups}
-use Rattle.protocol_meaning.specs.Meaning.{meaning_of}
-use Rattle.sequencer.specs.Drive.{Drive}
-use Rattle.sequencer.specs.Seats.{Seat}
-use Rattle.world_events.specs.declared.limits.RunLimits.{RunLimits}
-use Rattle.world_events.specs.Data.{IsData, view_of}
-use Rattle.world_events.specs.Worlds.{WorldView, opened as opened_view}
-use Rattle.world_events.specs.Opening.{AreOpened, IsOpened}
+use Rattle.sequencer.specs.Prelude.{Drive, Seat}
+use Rattle.world_events.specs.declared.world.RunLimits.{RunLimits}
+use Rattle.world_events.specs.Prelude.{IsData, view_of, WorldView, opened as opened_view, AreOpened, IsOpened}
 
 -- Ranges of counts.
 

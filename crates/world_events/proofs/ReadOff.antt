@@ -5,24 +5,20 @@ use Rattle.std.specs.Option.{option_map_or}
 use Rattle.std.proofs.lemmas.Option.{same_Some, slice_get-map}
 use Rattle.run_journal.specs.declared.entry.Entry.{Entry}
 use Rattle.run_journal.specs.declared.verdict.Verdict.{Verdict}
-use Rattle.ruby_value.specs.Ascending.{has_mark}
+use Rattle.ruby_value.specs.Prelude.{has_mark}
 use Rattle.ruby_value.specs.declared.message.Message.{Message}
-use Rattle.protocol_runs.specs.RunRules.{Rules}
-use Rattle.protocol_runs.specs.Run.{IsRun, Ran}
+use Rattle.protocol_runs.specs.Prelude.{Rules, IsRun, Ran, World}
 use Rattle.protocol_runs.specs.World as runs
-use Rattle.protocol_runs.specs.World.{World}
-use Rattle.ctl_face.specs.Ctl.{Ctl}
-use Rattle.protocol_meaning.specs.Meaning.{meaning_of}
-use Rattle.sequencer.specs.Drive.{Drive}
-use Rattle.sequencer.specs.Seats.{Seat}
+use Rattle.ctl_face.specs.Prelude.{Ctl}
+use Rattle.protocol_meaning.specs.Prelude.{meaning_of}
+use Rattle.sequencer.specs.Prelude.{Drive, Seat}
 use Rattle.world_state.specs.declared.place.Keeper.{Keeper}
 use Rattle.world_state.specs.declared.place.Keeper.TheVariants.{World as Home, Worker}
 use Rattle.world_state.specs.declared.place.Place.{Place}
-use Rattle.world_state.specs.Places.{Made, is_free, is_held, made_by, made_in, marks_by, place_by, place_with, places_with}
+use Rattle.world_state.specs.Prelude.{Made, is_free, is_held, made_by, made_in, marks_by, place_by, place_with, places_with, IsNobody, world_of}
 use Rattle.world_state.specs.declared.state.State.{State}
-use Rattle.world_state.specs.States.{IsNobody, world_of}
 use Rattle.world_state.proofs.Readings.{any-held, first-free}
-use Rattle.world_events.specs.Worlds.{InWorld, IsNobodyHeld, IsWorldOf, WorldView, is_free_at, rules_in, setting_in}
+use Rattle.world_events.specs.Prelude.{InWorld, IsNobodyHeld, IsWorldOf, WorldView, is_free_at, rules_in, setting_in}
 
 and-true : (b : Bool) → (b && true) ≡ b
 and-true true = refl

@@ -6,40 +6,27 @@ use Rattle.std.specs.Option.{option_map}
 use Rattle.run_journal.specs.declared.entry.Entry.{Entry}
 use Rattle.run_journal.specs.declared.event.Event.{Event}
 use Rattle.run_journal.specs.declared.verdict.Verdict.{Verdict}
-use Rattle.protocol_runs.specs.Run.{IsRun}
+use Rattle.protocol_runs.specs.Prelude.{IsRun, World, machine_of, Meaning, rules, Setting}
 use Rattle.protocol_runs.specs.World as runs
-use Rattle.protocol_runs.specs.World.{World}
 use Rattle.ruby_value.specs.declared.setup.MachineSetup.{MachineSetup}
 use Rattle.slicc_ast.specs.declared.tree.item.Tree.{Tree}
-use Rattle.ctl_face.specs.Ctl.{Ctl}
+use Rattle.ctl_face.specs.Prelude.{Ctl}
 use Rattle.ctl_face.specs.declared.routes.Routes.{Routes}
 use Rattle.ctl_store.specs.declared.parts.Parts.{Parts}
-use Rattle.ctl_store.specs.Room.{IsSameStore}
-use Rattle.ctl_store.specs.Kept.{me_of, machine_of as store_machine}
+use Rattle.ctl_store.specs.Prelude.{IsSameStore, me_of, machine_of as store_machine}
 use Rattle.ruby_topology.specs.declared.topology.Topology.{Topology}
-use Rattle.protocol_meaning.specs.Setups.{ranges_of}
-use Rattle.protocol_runs.specs.Machines.{machine_of}
-use Rattle.protocol_runs.specs.Meaning.{Meaning}
-use Rattle.protocol_runs.specs.Rules.{rules}
-use Rattle.protocol_runs.specs.Setting.{Setting}
-use Rattle.protocol_meaning.specs.Meaning.{meaning_of}
-use Rattle.protocol_meaning.specs.Setting.{setting_of}
-use Rattle.sequencer.specs.Drive.{Drive}
-use Rattle.sequencer.specs.Seats.{Seat}
+use Rattle.protocol_meaning.specs.Prelude.{ranges_of, meaning_of, setting_of}
+use Rattle.sequencer.specs.Prelude.{Drive, Seat}
 use Rattle.world_state.specs.declared.place.Keeper.{Keeper}
 use Rattle.world_state.specs.declared.place.Keeper.TheVariants.{World as Home, Worker}
 use Rattle.world_state.specs.declared.place.Place.{Place}
-use Rattle.world_state.specs.Places.{Made, made_for, made_in, place_by, place_with, places_with}
+use Rattle.world_state.specs.Prelude.{Made, made_for, made_in, place_by, place_with, places_with, AreMade, IsHeldBy, IsKept, IsLone, IsMadeFor, held_place, world_of, IsSame, SameCycle, Writes}
 use Rattle.world_state.specs.declared.seat.SeatAt.{SeatAt}
 use Rattle.world_state.specs.declared.state.State.{State}
-use Rattle.world_state.specs.States.{AreMade, IsHeldBy, IsKept, IsLone, IsMadeFor, held_place, world_of}
-use Rattle.world_state.specs.Steps.{IsSame, SameCycle, Writes}
 use Rattle.world_state.proofs.Worlds.{place-at}
-use Rattle.world_events.specs.declared.held.Held.{Held}
-use Rattle.world_events.specs.declared.limits.RunLimits.{RunLimits}
-use Rattle.world_events.specs.Data.{IsData, view_of}
-use Rattle.world_events.specs.Held.{Holds, IsHolding, IsSameHeld, ctl_in, kept_in}
-use Rattle.world_events.specs.Worlds.{HasAdded, InWorld, WorldView, setting_in}
+use Rattle.world_events.specs.declared.world.Held.{Held}
+use Rattle.world_events.specs.declared.world.RunLimits.{RunLimits}
+use Rattle.world_events.specs.Prelude.{IsData, view_of, Holds, IsHolding, IsSameHeld, ctl_in, kept_in, HasAdded, InWorld, WorldView, setting_in}
 use Rattle.world_events.proofs.ReadOff.{in-world}
 
 -- the world of facts in which nothing has changed

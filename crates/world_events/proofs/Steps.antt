@@ -13,54 +13,33 @@ use Rattle.run_journal.specs.declared.entry.FireNote.{FireNote}
 use Rattle.run_journal.specs.declared.event.Event.{Event}
 use Rattle.run_journal.specs.declared.event.Event.TheVariants.{Done, Fire, Release, Take, Turn}
 use Rattle.run_journal.specs.declared.verdict.Verdict.{Verdict}
-use Rattle.ruby_value.specs.Ascending.{has_mark}
+use Rattle.ruby_value.specs.Prelude.{has_mark}
 use Rattle.ruby_value.specs.declared.message.Delivery.{Delivery}
 use Rattle.ruby_value.specs.declared.message.Message.{Message}
-use Rattle.protocol_runs.specs.Change.{Ends}
-use Rattle.protocol_runs.specs.RunRules.{Acts, Fired, Rules}
-use Rattle.protocol_runs.specs.Run.{IsRun}
-use Rattle.protocol_runs.specs.Step.{fired_entry, step, with_controller}
+use Rattle.protocol_runs.specs.Prelude.{Ends, Acts, Fired, Rules, IsRun, fired_entry, step, with_controller, World, IsSetting, FitsRun, machine_of, IsMeaning, Meaning, rules, Setting}
 use Rattle.protocol_runs.specs.World as runs
-use Rattle.protocol_runs.specs.World.{World}
 use Rattle.protocol_runs.proofs.Places.{mapped-from, set-at}
 use Rattle.slicc_ast.specs.declared.tree.item.Tree.{Tree}
-use Rattle.ctl_face.specs.Between.{with_one_fired}
-use Rattle.ctl_face.specs.Ctl.{Ctl}
-use Rattle.ctl_store.specs.Kept.{ctl_of}
+use Rattle.ctl_face.specs.Prelude.{with_one_fired, Ctl}
+use Rattle.ctl_store.specs.Prelude.{ctl_of}
 use Rattle.ruby_topology.specs.declared.topology.Topology.{Topology}
-use Rattle.protocol_meaning.specs.Setups.{ranges_of}
-use Rattle.protocol_runs.specs.IsSetting.{IsSetting}
-use Rattle.protocol_runs.specs.Kept.{FitsRun}
-use Rattle.protocol_runs.specs.Machines.{machine_of}
-use Rattle.protocol_runs.specs.Meaning.{IsMeaning, Meaning}
-use Rattle.protocol_runs.specs.Rules.{rules}
-use Rattle.protocol_runs.specs.Setting.{Setting}
+use Rattle.protocol_meaning.specs.Prelude.{ranges_of, meaning_of, setting_of}
 use Rattle.protocol_runs.proofs.Controllers.{one-of}
-use Rattle.protocol_meaning.specs.Meaning.{meaning_of}
-use Rattle.protocol_meaning.specs.Setting.{setting_of}
-use Rattle.sequencer.specs.Drive.{Drive}
-use Rattle.sequencer.specs.Seats.{Seat}
-use Rattle.world_state.specs.Arrivals.{delivered}
+use Rattle.sequencer.specs.Prelude.{Drive, Seat}
+use Rattle.world_state.specs.Prelude.{delivered, IsEndedAt, IsHome, IsHomeAt, IsPutBack, IsTakenOut, Made, is_free, made_for, made_in, marks_by, place_by, place_with, places_with, ended, IsHeldBy, IsKept, IsMadeFor, IsNobody, held_place, home_place, world_of, IsSame, IsStep, SameCycle, Writes, CanTurn as Turnable, IsOfRun}
 use Rattle.world_state.specs.declared.place.Keeper.{Keeper}
 use Rattle.world_state.specs.declared.place.Keeper.TheVariants.{World as Home, Worker}
 use Rattle.world_state.specs.declared.place.Kept.{Kept}
 use Rattle.world_state.specs.declared.place.Place.{Place}
-use Rattle.world_state.specs.Places.{IsEndedAt, IsHome, IsHomeAt, IsPutBack, IsTakenOut, Made, is_free, made_for, made_in, marks_by, place_by, place_with, places_with}
 use Rattle.world_state.specs.declared.seat.SeatAt.{SeatAt}
 use Rattle.world_state.specs.declared.state.State.{State}
-use Rattle.world_state.specs.Ended.{ended}
-use Rattle.world_state.specs.States.{IsHeldBy, IsKept, IsMadeFor, IsNobody, held_place, home_place, world_of}
-use Rattle.world_state.specs.Steps.{IsSame, IsStep, SameCycle, Writes}
-use Rattle.world_state.specs.Turning.{CanTurn as Turnable, IsOfRun}
 use Rattle.world_state.proofs.Firing.{fire-kept, fire-steps}
 use Rattle.world_state.proofs.Readings.{any-held, first-free, none-held, none-passes}
 use Rattle.world_state.proofs.Stepping.{back-alone, back-kept, finish-steps, put-back, release-steps, take-kept, take-made, take-steps}
 use Rattle.world_state.proofs.Worlds.{delivers, home-at, made-at, place-at}
-use Rattle.world_events.specs.declared.held.Held.{Held}
-use Rattle.world_events.specs.declared.limits.RunLimits.{RunLimits}
-use Rattle.world_events.specs.Data.{IsData, view_of}
-use Rattle.world_events.specs.Held.{Holds, IsScanEnded, ctl_in, kept_in}
-use Rattle.world_events.specs.Worlds.{CanTake, CanTurn, HasAdded, InWorld, IsNobodyHeld, WorldView}
+use Rattle.world_events.specs.declared.world.Held.{Held}
+use Rattle.world_events.specs.declared.world.RunLimits.{RunLimits}
+use Rattle.world_events.specs.Prelude.{IsData, view_of, Holds, IsScanEnded, ctl_in, kept_in, CanTake, CanTurn, HasAdded, InWorld, IsNobodyHeld, WorldView}
 use Rattle.world_events.proofs.Holders.{deliveries-aside, step-driver, turn-nobody}
 use Rattle.world_events.proofs.Openings.{few-places}
 use Rattle.world_events.proofs.ReadOff.{free-in, in-world, nobody-is}

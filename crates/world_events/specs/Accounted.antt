@@ -1,10 +1,8 @@
 -- What the account of a run says of the messages in the inboxes of places that nobody holds: how many are queued, stalled and recycled.
 use Rattle.std.specs.Prelude.{◌≡◌, List, [], count_by, map}
 use Rattle.std.specs.List.{flat_map}
-use Rattle.protocol_runs.specs.Account.{is_queued, is_recycled, is_stalled}
-use Rattle.protocol_runs.specs.RunRules.{Mailed}
-use Rattle.ctl_store.specs.Kept.{ctl_of}
-use Rattle.protocol_runs.specs.Rules.{mailed}
+use Rattle.protocol_runs.specs.Prelude.{is_queued, is_recycled, is_stalled, Mailed, mailed}
+use Rattle.ctl_store.specs.Prelude.{ctl_of}
 use Rattle.world_state.specs.declared.place.Keeper.{Keeper}
 use Rattle.world_state.specs.declared.place.Keeper.TheVariants.{World, Worker}
 use Rattle.world_state.specs.declared.place.Place.{Place}

@@ -2,21 +2,16 @@
 -- seats that it needs, and the data are those of a run of this setting, where the driver began as its turns have left it.
 use Rattle.std.specs.Prelude.{◌≡◌, ◌≤◌, ℕ, List, length}
 use Rattle.slicc_ast.specs.declared.tree.item.Tree.{Tree}
-use Rattle.ctl_face.specs.Ctl.{Ctl}
-use Rattle.ctl_face.specs.Fits.{last_cycle}
+use Rattle.ctl_face.specs.Prelude.{Ctl, last_cycle}
 use Rattle.ruby_topology.specs.declared.topology.Topology.{Topology}
-use Rattle.slicc_plan.specs.SymbolsOf.{symbols_of}
-use Rattle.protocol_meaning.specs.FitsPlan.{FitsPlan}
-use Rattle.protocol_meaning.specs.Seats.{seat_setups}
-use Rattle.protocol_meaning.specs.Meaning.{meaning_of}
-use Rattle.world_events.specs.declared.limits.RunLimits.{RunLimits}
+use Rattle.slicc_plan.specs.Prelude.{symbols_of}
+use Rattle.protocol_meaning.specs.Prelude.{FitsPlan, seat_setups, meaning_of}
+use Rattle.world_events.specs.declared.world.RunLimits.{RunLimits}
 use Rattle.world_events.specs.Worlds.{WorldView, setting_in}
-use Rattle.sequencer.specs.Drive.{Drive}
-use Rattle.sequencer.specs.Seats.{Seat}
+use Rattle.sequencer.specs.Prelude.{Drive, Seat}
 use Rattle.world_state.specs.declared.seat.SeatAt.{SeatAt}
-use Rattle.world_state.specs.Seated.{setups_in}
+use Rattle.world_state.specs.Prelude.{setups_in, IsKept}
 use Rattle.world_state.specs.declared.state.State.{State}
-use Rattle.world_state.specs.States.{IsKept}
 
 -- the world as contracts see it, by its data; no turn changes what the driver's opening is
 abbrev pub view_of : {D : Type 0} → (opening : D → D) → List Tree → Topology → RunLimits → State D → WorldView D

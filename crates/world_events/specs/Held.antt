@@ -3,25 +3,16 @@
 -- ended its wake-up.
 use Rattle.std.specs.Prelude.{◌≡◌, ℕ, false, None, Some, List, slice_get}
 use Rattle.run_journal.specs.declared.entry.End.{End}
-use Rattle.protocol_runs.specs.Change.{Ends}
-use Rattle.protocol_runs.specs.RunRules.{Fired}
-use Rattle.protocol_runs.specs.World.{World}
-use Rattle.ctl_face.specs.Ctl.{Ctl}
+use Rattle.protocol_runs.specs.Prelude.{Ends, Fired, World, machine_of, acts_told}
+use Rattle.ctl_face.specs.Prelude.{Ctl}
 use Rattle.ctl_store.specs.declared.outcome.Outcome.{Outcome}
-use Rattle.ctl_store.specs.Kept.{ctl_of}
-use Rattle.ctl_store.specs.Room.{IsSameStore}
-use Rattle.ctl_store.specs.Sealed.{IsOutcomeFor, note_of, outcome_acts, outcome_ctl}
-use Rattle.protocol_runs.specs.Machines.{machine_of}
-use Rattle.protocol_runs.specs.Meaning.{acts_told}
-use Rattle.protocol_meaning.specs.Setups.{ranges_of}
+use Rattle.ctl_store.specs.Prelude.{ctl_of, IsSameStore, IsOutcomeFor, note_of, outcome_acts, outcome_ctl}
+use Rattle.protocol_meaning.specs.Prelude.{ranges_of}
 use Rattle.world_state.specs.declared.place.Kept.{Kept}
-use Rattle.world_state.specs.Places.{made_for}
-use Rattle.world_state.specs.Ended.{ended}
-use Rattle.world_state.specs.States.{IsMadeFor}
-use Rattle.world_events.specs.declared.held.Held.{Held}
+use Rattle.world_state.specs.Prelude.{made_for, ended, IsMadeFor}
+use Rattle.world_events.specs.declared.world.Held.{Held}
 use Rattle.world_events.specs.Worlds.{InWorld, WorldView, rules_in, setting_in}
-use Rattle.sequencer.specs.Drive.{Drive}
-use Rattle.sequencer.specs.Seats.{Seat}
+use Rattle.sequencer.specs.Prelude.{Drive, Seat}
 
 -- what goes back to the world
 abbrev pub kept_in : Held → Kept

@@ -3,3 +3,4 @@ pub mod Held
 pub mod Data
 pub mod Opening
 pub mod Accounted
+pub mod Prelude

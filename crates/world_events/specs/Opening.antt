@@ -1,13 +1,13 @@
 -- Stores as a run over a topology begins: each was made for its controller, which is as a run begins. And the data of a world then.
 use Rattle.std.specs.Prelude.{◌≡◌, ℕ, Some, List, length, slice_get, sum}
 use Rattle.slicc_ast.specs.declared.tree.item.Tree.{Tree}
-use Rattle.ctl_face.specs.Opening.{opening_ctl}
-use Rattle.ctl_store.specs.Kept.{ctl_of, machine_of, me_of}
+use Rattle.ctl_face.specs.Prelude.{opening_ctl}
+use Rattle.ctl_store.specs.Prelude.{ctl_of, machine_of, me_of}
 use Rattle.ruby_topology.specs.declared.topology.Topology.{Topology}
-use Rattle.protocol_meaning.specs.FitsPlan.{AtSetup}
+use Rattle.protocol_meaning.specs.Prelude.{AtSetup}
 use Rattle.world_state.specs.declared.place.Kept.{Kept}
 use Rattle.world_state.specs.declared.state.State.{State}
-use Rattle.world_state.specs.Opened.{IsOpening}
+use Rattle.world_state.specs.Prelude.{IsOpening}
 
 module _ (trees : List Tree) (t : Topology) where
   pub record IsOpenedFor (c : ℕ) (k : Kept) : Type 0 where

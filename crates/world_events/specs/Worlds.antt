@@ -11,20 +11,14 @@ use Rattle.run_journal.specs.contracts.entry.Entry as entry
 use Rattle.run_journal.specs.contracts.event.Event as event
 use Rattle.run_journal.specs.declared.entry.Entry.{Entry}
 use Rattle.run_journal.specs.declared.event.Event.{Event}
-use Rattle.protocol_runs.specs.RunRules.{Rules}
-use Rattle.protocol_runs.specs.Run.{IsRun}
-use Rattle.protocol_runs.specs.World.{World, is_free, is_held}
-use Rattle.ctl_face.specs.Ctl.{Ctl}
+use Rattle.protocol_runs.specs.Prelude.{Rules, IsRun, World, is_free, is_held, rules, Setting}
+use Rattle.ctl_face.specs.Prelude.{Ctl}
 use Rattle.ruby_topology.specs.contracts.topology.Topology as topology
 use Rattle.ruby_topology.specs.declared.topology.Topology.{Topology}
-use Rattle.protocol_runs.specs.Rules.{rules}
-use Rattle.protocol_runs.specs.Setting.{Setting}
-use Rattle.protocol_meaning.specs.Meaning.{meaning_of}
-use Rattle.protocol_meaning.specs.Setting.{setting_of}
-use Rattle.world_events.specs.contracts.limits.RunLimits as limits
-use Rattle.world_events.specs.declared.limits.RunLimits.{RunLimits}
-use Rattle.sequencer.specs.Drive.{Drive}
-use Rattle.sequencer.specs.Seats.{Seat}
+use Rattle.protocol_meaning.specs.Prelude.{meaning_of, setting_of}
+use Rattle.world_events.specs.contracts.world.RunLimits as limits
+use Rattle.world_events.specs.declared.world.RunLimits.{RunLimits}
+use Rattle.sequencer.specs.Prelude.{Drive, Seat}
 
 pub record WorldView (D : Type 0) : Type 0 where
   pub trees : List Tree

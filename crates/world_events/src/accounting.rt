@@ -1,20 +1,18 @@
-//! Where the messages of a run have gone, read off a world's data.
-ghost use Rattle.std.specs.Prelude.{◌≡◌, ◌+◌, ◌++◌, ℕ, List, IfOk};
-ghost use Rattle.protocol_runs.specs.Account.{account as account_at};
-ghost use Rattle.protocol_runs.specs.RunRules.{Mailed};
-ghost use Rattle.ctl_face.specs.Ctl.{Ctl};
-ghost use Rattle.ctl_mail.specs.Census.{capped};
-ghost use Rattle.protocol_runs.specs.Meaning.{Meaning};
-ghost use Rattle.protocol_runs.specs.Rules.{rules};
-ghost use Rattle.protocol_runs.specs.Setting.{Setting};
-ghost use Rattle.sequencer.specs.Drive.{Drive};
-ghost use Rattle.sequencer.specs.Seats.{Seat};
-ghost use Rattle.world_state.specs.Places.{made_in};
+//! Where the messages of a run have gone, and what else is read off a world, and taken from it, as its run has ended.
+ghost use Rattle.std.specs.Prelude.{◌≡◌, ◌+◌, ◌++◌, ℕ, List, IfOk, Some};
+ghost use Rattle.protocol_runs.specs.Prelude.{account, Mailed, Meaning, rules, Setting, HasEnded};
+ghost use Rattle.ctl_face.specs.Prelude.{Ctl};
+ghost use Rattle.ctl_mail.specs.Prelude.{capped};
+ghost use Rattle.sequencer.specs.Prelude.{Drive, Seat};
+ghost use Rattle.world_state.specs.Prelude.{made_in, IsNobody, world_of};
 ghost use Rattle.world_events.specs.Accounted.{AreCountsOf, mail_by, mail_in};
-ghost use Rattle.world_state.specs.States.{IsNobody, world_of};
+ghost use Rattle.run_journal.specs.Prelude.{tally};
+ghost use Rattle.world_events.specs.Worlds.{InWorld, rules_in};
 
+use crate::World;
 use ruby_value::NoMemory;
-use run_journal::Account;
+use run_journal::{Account, Tally, Verdict, tally_of};
+use sequencer::Driver;
 use world_state::{Keeper, Place, State};
 
 /// How many messages are queued, stalled and recycled.
@@ -79,7 +77,7 @@ fn counts_of(places: &[Place]) -> Result<Counts, NoMemory>
 pub(crate) fn account<D>(st: &State<D>) -> Result<Account, NoMemory>
     requires { IsNobody (made_in st.now.places.items) }
     ensures { IfOk result (λ a. (p : Meaning) (drive : D → List Seat → ℕ → Drive D) (s : Setting D) (held : Ctl)
-        → a ≡ account_at (rules p drive s) st.entry.now.book.journal
+        → a ≡ account (rules p drive s) st.entry.now.book.journal
         (world_of held st.entry.now).places) }
 {
     let Some(sent) = st.book.sent() else {
@@ -96,4 +94,34 @@ pub(crate) fn account<D>(st: &State<D>) -> Result<Account, NoMemory>
         stalled: counts.stalled,
         recycled: counts.recycled,
     })
+}
+
+impl<D: Driver> World<D> {
+    /// How many events of each kind the worker has in the history.
+    pub fn tally(&self, worker: u32) -> Tally
+        ensures { result ≡ tally worker self.now.history }
+    {
+        tally_of(self.state.book.history(), worker)
+    }
+
+    /// Where the messages of a run that has ended have gone.
+    pub fn account(&self) -> Result<Account, NoMemory>
+        requires { InWorld D.drive self.now HasEnded }
+        ensures { IfOk result (λ a. InWorld D.drive self.now (λ w.
+            a ≡ account (rules_in D.drive self.now) self.now.journal w.places)) }
+    {
+        account(&self.state)
+    }
+
+    /// The verdict with which a run has ended.
+    pub fn ending(&self) -> Verdict
+        requires { InWorld D.drive self.now HasEnded }
+        ensures { InWorld D.drive self.now (λ w. w.verdict ≡ Some result) }
+    {
+        self.law();
+        let Some(verdict) = self.verdict() else {
+            unreachable!()
+        };
+        *verdict
+    }
 }

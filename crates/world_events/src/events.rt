@@ -4,9 +4,8 @@ ghost use Rattle.run_journal.specs.declared.event.Event.TheVariants as event;
 ghost use Rattle.world_events.specs.Held.{Holds, IsSameHeld, IsScanEnded, IsScanFired};
 ghost use Rattle.world_events.specs.Worlds.{CanTake, CanTurn, HasAdded, InWorld, IsNobodyHeld};
 
-use crate::held::Held;
-use crate::machines::machine_of;
-use crate::world::World;
+use crate::opening::machine_of;
+use crate::world::{Held, World};
 use ctl_store::Outcome;
 use protocol_meaning::{meanings_are_lawful, settings_are_lawful};
 use protocol_runs::controllers_fit;

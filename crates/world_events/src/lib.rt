@@ -3,15 +3,8 @@
 #![tactic(auto)]
 
 mod accounting;
-mod ended;
 mod events;
-mod held;
-mod limits;
-mod machines;
 mod opening;
-mod routes;
 mod world;
 
-pub use held::Held;
-pub use limits::RunLimits;
-pub use world::World;
+pub use world::{Held, RunLimits, World};

@@ -1,22 +1,20 @@
-//! A world as its run begins.
-ghost use Rattle.std.specs.Prelude.{◌≡◌, ◌≤◌, ◌<◌, IfOk, IsSome, length, option_and_then, slice_get, sum, unwrap_or};
-ghost use Rattle.slicc_plan.specs.SymbolsOf.{symbols_of};
-ghost use Rattle.ctl_face.specs.Fits.{last_cycle};
-ghost use Rattle.ruby_symbols.specs.Names.{mandatory as mandatory_in};
-ghost use Rattle.protocol_runs.specs.Machines.{machine_of as machine_in};
-ghost use Rattle.protocol_meaning.specs.FitsPlan.{FitsPlan};
-ghost use Rattle.protocol_meaning.specs.Seats.{seat_setup, seat_setups};
-ghost use Rattle.protocol_meaning.specs.Setups.{ranges_of};
-ghost use Rattle.world_state.specs.Seated.{setup_of, setups_in};
+//! A world as its run begins, with the machines of its controllers and routes of its own.
+ghost use Rattle.std.specs.Prelude.{◌≡◌, ◌≤◌, ◌<◌, IfOk, IsSome, length, option_and_then, slice_get, sum, unwrap_or, ◌+◌, ◌^◌, Some, ◌∷◌, ◌++◌, [], OnOk};
+ghost use Rattle.std.specs.Option.{option_map};
+ghost use Rattle.slicc_plan.specs.Prelude.{symbols_of};
+ghost use Rattle.ctl_face.specs.Prelude.{last_cycle};
+ghost use Rattle.ruby_symbols.specs.Prelude.{mandatory};
+ghost use Rattle.protocol_runs.specs.Prelude.{machine_of};
+ghost use Rattle.protocol_meaning.specs.Prelude.{FitsPlan, seat_setup, seat_setups, ranges_of};
+ghost use Rattle.world_state.specs.Prelude.{setup_of, setups_in};
 ghost use Rattle.world_events.specs.Opening.{AreOpened, IsOpened, IsOpenedFor};
 ghost use Rattle.world_events.specs.Worlds.{opened};
+ghost use Rattle.ruby_topology.specs.Prelude.{ranges_from};
 
-use crate::limits::RunLimits;
-use crate::machines::machine_of;
-use crate::routes::routes_copied;
-use crate::world::World;
+use crate::{RunLimits, World};
+use ctl_face::Routes;
 use ctl_store::Store;
-use ruby_base::NoMemory;
+use ruby_base::{NoMemory, Seq};
 use ruby_symbols::mandatory;
 use ruby_topology::{Seat, Topology};
 use sequencer::Driver;
@@ -26,7 +24,7 @@ use world_state::{Kept, SeatAt, State};
 
 // The number of the buffer `mandatoryQueue` of the machine of this number, or 0 where there is none.
 fn queue_in(plan: &Plan, machine: u16) -> u16
-    ensures { result ≡ unwrap_or (option_and_then mandatory_in
+    ensures { result ≡ unwrap_or (option_and_then mandatory
         (slice_get (symbols_of plan.now).machines machine)) 0 }
 {
     match plan.symbols().machines.get(machine as usize) {
@@ -38,7 +36,7 @@ fn queue_in(plan: &Plan, machine: u16) -> u16
 // A seat as a run has it.
 fn seat_at(plan: &Plan, topology: &Topology, seat: Seat) -> SeatAt
     requires fits { FitsPlan plan.now topology.now }
-    requires there { IsSome (machine_in (ranges_of topology.now) seat.controller) }
+    requires there { IsSome (machine_of (ranges_of topology.now) seat.controller) }
     ensures { setup_of result ≡ seat_setup (symbols_of plan.now) (ranges_of topology.now) seat }
 {
     let machine = machine_of(topology.counts.as_slice(), seat.controller);
@@ -131,4 +129,65 @@ impl<D: Driver> World<D> {
             state,
         })
     }
+}
+
+// The first machine among these, of which the first has this number and begins with this controller, that has a controller.
+fn machine_from(counts: &[u32], machine: u16, first: u32, c: u32) -> Option<u16>
+    requires machines { machine + length counts.now < 2 ^ 16 }
+    requires controllers { first + sum counts.now < 2 ^ 32 }
+    ensures { result ≡ option_map (λ m. machine + m) (machine_of (ranges_from first counts.now) c) }
+{
+    let [count, rest @ ..] = counts else {
+        return None;
+    };
+    if first <= c && c < first + *count {
+        return Some(machine);
+    }
+    machine_from(rest, machine + 1, first + *count, c)
+}
+
+/// The number of a controller's machine, by how many controllers each machine has.
+pub(crate) fn machine_of(counts: &[u32], c: u32) -> u16
+    requires few { length counts.now < 2 ^ 16 }
+    requires all { sum counts.now < 2 ^ 32 }
+    requires there { IsSome (machine_of (ranges_from 0 counts.now) c) }
+    ensures { machine_of (ranges_from 0 counts.now) c ≡ Some result }
+{
+    match machine_from(counts, 0, 0, c) {
+        Some(machine) => machine,
+        None => unreachable!(),
+    }
+}
+
+// Adds a row of its own.
+fn add_row<T: Copy>(alloc: Global, copied: &mut Seq<Seq<T>>, row: &[T]) -> Result<(), NoMemory>
+    ensures { OnOk result (copied.new ≡ copied.old ++ row.now ∷ []) }
+{
+    let row = Seq::copied(alloc, row)?;
+    copied.push(row)?;
+    Ok(())
+}
+
+fn rows_copied<T: Copy>(alloc: Global, rows: &[Seq<T>]) -> Result<Seq<Seq<T>>, NoMemory>
+    ensures { IfOk result (λ copied. copied ≡ rows.now) }
+{
+    let mut copied = Seq::new(alloc);
+    for row in rows {
+        add_row(alloc, &mut copied, row.as_slice())?;
+    }
+    Ok(copied)
+}
+
+pub(crate) fn routes_copied(alloc: Global, routes: &Routes) -> Result<Routes, NoMemory>
+    ensures { IfOk result (λ copied. copied ≡ routes.now) }
+{
+    let paths = rows_copied(alloc, routes.paths.as_slice())?;
+    let ordered = Seq::copied(alloc, routes.ordered.as_slice())?;
+    let receiving = rows_copied(alloc, routes.receiving.as_slice())?;
+    Ok(Routes {
+        paths,
+        jitter: routes.jitter,
+        ordered,
+        receiving,
+    })
 }

@@ -1,15 +1,16 @@
-//! A world, and what is read off it.
+//! A world, what bounds its run, who holds a controller, and what is read off it.
 ghost use Rattle.std.specs.Prelude.{◌≡◌, ◌≤◌, IfOk, length, position};
 ghost use Rattle.std.specs.List.{list_any};
 ghost use Rattle.std.specs.Option.{option_copied};
-ghost use Rattle.protocol_runs.specs.World.{World as WorldRecord, is_free, is_held};
-ghost use Rattle.ctl_face.specs.Ctl.{Ctl};
-ghost use Rattle.ctl_face.specs.Fits.{last_cycle};
-ghost use Rattle.run_journal.specs.AreFinals.{AreFinals};
-ghost use Rattle.protocol_meaning.specs.FitsPlan.{FitsPlan};
+ghost use Rattle.protocol_runs.specs.Prelude.{World as WorldRecord, is_free, is_held};
+ghost use Rattle.ctl_face.specs.Prelude.{Ctl, last_cycle};
+ghost use Rattle.run_journal.specs.Prelude.{AreFinals};
+ghost use Rattle.protocol_meaning.specs.Prelude.{FitsPlan};
 ghost use Rattle.world_events.specs.Worlds.{InWorld, IsWorldOf, is_free_at as is_free_in, rules_in};
+ghost use Rattle.world_events.specs.Held.{kept_in};
 
-use crate::limits::RunLimits;
+use ctl_face::Routes;
+use ctl_store::Store;
 use protocol_meaning::{meanings_are_lawful, settings_are_lawful};
 use protocol_runs::controllers_fit;
 use ruby_base::Seq;
@@ -20,7 +21,7 @@ use sequencer::Driver;
 use slicc_plan::Plan;
 use std::alloc::Global;
 use std::marker::Model;
-use world_state::{SeatAt, State, any_held, first_free, is_free_at};
+use world_state::{Kept, SeatAt, State, any_held, first_free, is_free_at};
 
 /// All controllers of a protocol over a topology, with a driver, as a run has led them here. A contract sees what the run began with, and
 /// its history and journal: these lead to one world, which always is one of a run. One controller at most is held at a time.
@@ -140,4 +141,79 @@ impl<D: Driver> World<D> {
         let finals = finals(alloc, &journal)?;
         Ok((plan, topology, history, journal, finals))
     }
+}
+
+/// A controller that a worker holds: its store, and what a scan of it goes by.
+pub struct Held {
+    /// The controller's number.
+    pub controller: u32,
+    /// The number of its machine.
+    pub machine: u16,
+    /// The cycle in which it is held.
+    pub cycle: u64,
+    /// The seed of all random words of the run.
+    pub seed: u64,
+    /// How many transitions the controller may fire in a cycle.
+    pub limit: u64,
+    /// How many it has fired in this one.
+    pub fired: u64,
+    /// Whether its last scan stalled a transition, so that it wakes again in the next cycle.
+    pub stalled: bool,
+    pub store: Store,
+    pub routes: Routes,
+}
+
+// It is written out, as that of a world is.
+impl Drop for Held {
+    fn drop(self) {
+        let Held {
+            controller: _,
+            machine: _,
+            cycle: _,
+            seed: _,
+            limit: _,
+            fired: _,
+            stalled: _,
+            store: _,
+            routes: _,
+        } = self;
+    }
+}
+
+impl Held {
+    // What goes back to the world.
+    pub(crate) fn into_kept(self) -> Kept
+        ensures { result ≡ kept_in self }
+    {
+        let Held {
+            controller: _,
+            machine: _,
+            cycle: _,
+            seed: _,
+            limit: _,
+            fired: _,
+            stalled: _,
+            store,
+            routes,
+        } = self;
+        Kept { store, routes }
+    }
+
+    /// Keeps whether the last scan stalled a transition.
+    pub fn rest(&mut self, stalled: bool)
+        ensures { self.new ≡ record self.old { stalled = stalled } }
+    {
+        self.stalled = stalled;
+    }
+}
+
+/// What bounds a run beside its protocol, its topology and its driver.
+#[derive(Clone, Copy)]
+pub struct RunLimits {
+    /// The seed of all random words.
+    pub seed: u64,
+    /// The last cycle that the run may reach, 1 to 10^12.
+    pub cycles: u64,
+    /// How many transitions a controller may fire in a cycle, 1 to 1,000.
+    pub limit: u64,
 }

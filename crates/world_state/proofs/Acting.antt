@@ -8,43 +8,28 @@ use Rattle.std.specs.Option.{option_map}
 use Rattle.ruby_value.specs.declared.fault.Finding.{Finding}
 use Rattle.ruby_value.specs.declared.fault.Finding.TheVariants.{Deadlock, Incoherent, Passed}
 use Rattle.ruby_value.specs.declared.message.Message.{Message}
-use Rattle.ruby_value.specs.Requests.{IsRequest, Requests, with_request}
+use Rattle.ruby_value.specs.Prelude.{IsRequest, Requests, with_request}
 use Rattle.protocol_runs.specs.Premises as premises
-use Rattle.protocol_runs.specs.RunRules.{Rules}
-use Rattle.protocol_runs.specs.Step.{driver_turn_in}
+use Rattle.protocol_runs.specs.Prelude.{Rules, driver_turn_in, World, HasQueue, FitsRun, HasSeats, SuitsReceiver, setup_of, Meaning, request_at, request_messages, rules, SeatSetup, Setting, seat_in, seats_in}
 use Rattle.protocol_runs.specs.World as runs
-use Rattle.protocol_runs.specs.World.{World}
 use Rattle.protocol_runs.proofs.Fitting.{WorldFits, asked-in, world-fits}
-use Rattle.ctl_face.specs.Ctl.{Ctl}
+use Rattle.ctl_face.specs.Prelude.{Ctl}
 use Rattle.protocol_runs.specs.IsSetting as setting
-use Rattle.protocol_runs.specs.IsSetting.{HasQueue}
-use Rattle.protocol_runs.specs.Kept.{FitsRun, HasSeats, SuitsReceiver}
-use Rattle.protocol_runs.specs.Machines.{setup_of}
-use Rattle.protocol_runs.specs.Meaning.{Meaning}
-use Rattle.protocol_runs.specs.Requests.{request_at, request_messages}
-use Rattle.protocol_runs.specs.Rules.{rules}
-use Rattle.protocol_runs.specs.Setting.{SeatSetup, Setting}
-use Rattle.protocol_runs.specs.Turn.{seat_in, seats_in}
 use Rattle.protocol_runs.proofs.Controllers.{and-some, below-count, count-is, of-one, one-of}
 use Rattle.protocol_runs.proofs.Driver.{IsDriver}
 use Rattle.protocol_runs.proofs.Lawful.{seats_fit}
 use Rattle.protocol_runs.proofs.Premises.{carries_mail, sound}
 use Rattle.protocol_runs.proofs.Turns.{IsIssued, issued-known, lawful-turn, taken-count}
 use Rattle.sequencer.specs.declared.issued.Issued.{Issued}
-use Rattle.sequencer.specs.Drive.{Drive, IsFindingAt, IsLawful, after_drive, after_issuing, seats_after_taking}
-use Rattle.sequencer.specs.Seats.{FitSeats, Seat, Seating, changed_seat, with_issued, with_seat}
-use Rattle.world_state.specs.Cycle.{HasLine}
+use Rattle.sequencer.specs.Prelude.{Drive, IsFindingAt, IsLawful, after_drive, after_issuing, seats_after_taking, FitSeats, Seat, Seating, changed_seat, with_issued, with_seat}
+use Rattle.world_state.specs.Prelude.{HasLine, IsHome, IsHomeBy, Made, made_by, made_in, place_with, places_with, IsHomeIn, controllers_in, setup_of as setup_at, setups_in, IsNobody, world_of, IsActIn, IsReady, requests_in, seating_in, IsOfRun}
 use Rattle.world_state.specs.declared.place.Keeper.{Keeper}
 use Rattle.world_state.specs.declared.place.Keeper.TheVariants.{World as Home, Worker}
 use Rattle.world_state.specs.declared.place.Place.{Place}
-use Rattle.world_state.specs.Places.{IsHome, IsHomeBy, Made, made_by, made_in, place_with, places_with}
 use Rattle.world_state.specs.declared.seat.SeatAt.{SeatAt}
-use Rattle.world_state.specs.Seated.{AreApart, IsHomeIn, controllers_in, setup_of as setup_at, setups_in}
+use Rattle.world_state.specs.Seated.{AreApart}
 use Rattle.world_state.specs.declared.state.State.{State}
-use Rattle.world_state.specs.States.{IsNobody, world_of}
 use Rattle.world_state.proofs.Worlds.{home-at, nobody-same}
-use Rattle.world_state.specs.Turned.{IsActIn, IsReady, requests_in, seating_in}
-use Rattle.world_state.specs.Turning.{IsOfRun}
 use Rattle.world_state.proofs.Counts.{few-issued}
 use Rattle.world_state.proofs.Few.{before-map, few-below, pairs-before-map}
 

@@ -4,17 +4,16 @@ use Rattle.std.proofs.lemmas.List.{drop_more, map-append, reverse-append, take_m
 use Rattle.std.proofs.lemmas.Option.{get_or_from_slice_get, slice_get-get_or, slice_get-map, slice_get_within}
 use Rattle.std.specs.List.{AllPairs}
 use Rattle.std.specs.Option.{option_and_then, option_map}
-use Rattle.ruby_value.specs.Requests.{Requests}
+use Rattle.ruby_value.specs.Prelude.{Requests}
 use Rattle.protocol_runs.specs.World as runs
-use Rattle.ctl_face.specs.Ctl.{Ctl}
-use Rattle.ctl_store.specs.Kept.{requests_of}
-use Rattle.protocol_runs.specs.Setting.{SeatSetup}
-use Rattle.protocol_runs.specs.Turn.{seat_in, seats_in}
+use Rattle.ctl_face.specs.Prelude.{Ctl}
+use Rattle.ctl_store.specs.Prelude.{requests_of}
+use Rattle.protocol_runs.specs.Prelude.{SeatSetup, seat_in, seats_in}
 use Rattle.sequencer.specs.declared.owned_seat.OwnedSeat.{OwnedSeat}
-use Rattle.sequencer.specs.OwnedSeats.{seat_of, seats_of}
-use Rattle.sequencer.specs.Seats.{Seat}
+use Rattle.sequencer.specs.Prelude.{seat_of, seats_of, Seat}
 use Rattle.world_state.specs.declared.seat.SeatAt.{SeatAt}
-use Rattle.world_state.specs.Seated.{AreApart, controllers_in, seated, seated_one, setup_of, setups_in}
+use Rattle.world_state.specs.Seated.{AreApart}
+use Rattle.world_state.specs.Prelude.{controllers_in, seated, seated_one, setup_of, setups_in}
 use Rattle.world_state.proofs.Seats.{one-apart}
 
 -- the last one of a list is the first of those that are left

@@ -12,42 +12,28 @@ use Rattle.ruby_value.specs.declared.message.Sent.{Sent}
 use Rattle.ruby_value.specs.declared.setup.BufferSetup.{BufferSetup}
 use Rattle.ruby_value.specs.declared.setup.MachineSetup.{MachineSetup}
 use Rattle.run_journal.specs.declared.entry.FireNote.{FireNote}
-use Rattle.protocol_runs.specs.Fresh.{HasFreshNumbers, given, given_at}
-use Rattle.protocol_runs.specs.RunRules.{Acts, Fired, Rules}
+use Rattle.protocol_runs.specs.Prelude.{HasFreshNumbers, given, given_at, Acts, Fired, Rules, World, IsSetting, FitsRun, HasSeats, SuitsReceiver, actor_of, setup_of, IsFired, IsMeaning, Meaning, rules, Setting}
 use Rattle.protocol_runs.specs.World as runs
-use Rattle.protocol_runs.specs.World.{World}
 use Rattle.protocol_runs.proofs.Fitting.{WorldFits, world-fits}
-use Rattle.acts.specs.Mailed.{HasMailed, IsPosted}
-use Rattle.acts.specs.Left.{IsLeft}
+use Rattle.acts.specs.Prelude.{HasMailed, IsPosted, IsLeft}
 use Rattle.acts.proofs.Left.{left_lawful, left_mailed, left_scan}
-use Rattle.ctl_face.specs.Ctl.{Ctl}
-use Rattle.ctl_face.specs.Fits.{IsLawful}
-use Rattle.ctl_face.specs.LocalView.{Actor, LocalView, SameScan}
-use Rattle.ctl_face.specs.OfMachine.{TakesFields}
+use Rattle.ctl_face.specs.Prelude.{Ctl, IsLawful, Actor, LocalView, SameScan, TakesFields}
 use Rattle.ctl_face.proofs.LawfulAfter.{scan_begins}
 use Rattle.ctl_face.proofs.OwnBuffers.{fit_each}
-use Rattle.ctl_mail.specs.MailOf.{IsNewIn}
-use Rattle.ctl_store.specs.Kept.{ctl_of, machine_of}
-use Rattle.protocol_runs.specs.IsSetting.{IsSetting}
-use Rattle.protocol_runs.specs.Kept.{FitsRun, HasSeats, SuitsReceiver}
-use Rattle.protocol_runs.specs.Machines.{actor_of, setup_of}
-use Rattle.protocol_runs.specs.Meaning.{IsFired, IsMeaning, Meaning}
-use Rattle.protocol_runs.specs.Rules.{rules}
-use Rattle.protocol_runs.specs.Setting.{Setting}
+use Rattle.ctl_mail.specs.Prelude.{IsNewIn}
+use Rattle.ctl_store.specs.Prelude.{ctl_of, machine_of}
 use Rattle.protocol_runs.proofs.Controllers.{and-some, controller-is, lawful-machine}
 use Rattle.protocol_runs.proofs.Driver.{IsDriver}
 use Rattle.protocol_runs.proofs.Lawful.{all_fit, fresh}
 use Rattle.protocol_runs.proofs.Premises.{sound}
 use Rattle.protocol_runs.proofs.Scans.{Fitting, begun, copies-suit, fitting, moves, scan-of}
-use Rattle.sequencer.specs.Drive.{Drive}
-use Rattle.sequencer.specs.Seats.{Seat}
-use Rattle.world_state.specs.Arrivals.{AreApart, CanArrive, Suits, SuitsBy, Takes, TakesAt}
+use Rattle.sequencer.specs.Prelude.{Drive, Seat}
+use Rattle.world_state.specs.Arrivals.{AreApart}
+use Rattle.world_state.specs.Prelude.{CanArrive, Suits, SuitsBy, Takes, TakesAt, Made, made_by, made_in, place_with, places_with, held_place, AreMade, IsHeldIn, IsKept, IsLone, IsMadeFor, world_of}
 use Rattle.world_state.specs.declared.place.Keeper.{Keeper}
 use Rattle.world_state.specs.declared.place.Keeper.TheVariants.{World as Home, Worker}
 use Rattle.world_state.specs.declared.place.Place.{Place}
-use Rattle.world_state.specs.Places.{Made, made_by, made_in, place_with, places_with}
 use Rattle.world_state.specs.declared.state.State.{State}
-use Rattle.world_state.specs.States.{held_place, AreMade, IsHeldIn, IsKept, IsLone, IsMadeFor, world_of}
 use Rattle.world_state.proofs.Copies.{IsNext, new-in, posted-apart, posted-fewer, posted-next}
 use Rattle.world_state.proofs.Worlds.{made-at, place-at}
 

@@ -10,13 +10,12 @@ use Rattle.ruby_value.specs.declared.message.Message.{Message}
 use Rattle.ruby_value.proofs.Ordered.{AllPairs-head, AllPairs-tail}
 use Rattle.protocol_runs.specs.World as runs
 use Rattle.protocol_runs.proofs.Places.{set-at}
-use Rattle.ctl_face.specs.Between.{with_arrival}
-use Rattle.ctl_face.specs.Ctl.{Ctl}
+use Rattle.ctl_face.specs.Prelude.{with_arrival, Ctl}
 use Rattle.world_state.specs.declared.place.Keeper.{Keeper}
 use Rattle.world_state.specs.declared.place.Keeper.TheVariants.{World, Worker}
 use Rattle.world_state.specs.declared.place.Place.{Place}
-use Rattle.world_state.specs.Arrivals.{AreApart, CanArrive, HasRoom, HasRoomBy, Takes, TakesAt, delivered_one, with_arrival_at}
-use Rattle.world_state.specs.Places.{place_with, places_with}
+use Rattle.world_state.specs.Arrivals.{AreApart}
+use Rattle.world_state.specs.Prelude.{CanArrive, HasRoom, HasRoomBy, Takes, TakesAt, delivered_one, with_arrival_at, place_with, places_with}
 use Rattle.world_state.proofs.At.{place-set}
 
 pub fewer-by : (n : ℕ) (k : Keeper) → HasRoomBy (n + 1) k → HasRoomBy n k

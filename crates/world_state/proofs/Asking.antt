@@ -7,13 +7,10 @@ use Rattle.ruby_value.specs.declared.asked.Asked.{Asked}
 use Rattle.ruby_value.specs.declared.message.Delivery.{Delivery}
 use Rattle.ruby_value.specs.declared.message.Message.{Message}
 use Rattle.ruby_value.specs.declared.message.MsgNo.{MsgNo}
-use Rattle.protocol_runs.specs.Requests.{request_at, request_message, request_messages}
-use Rattle.protocol_runs.specs.Setting.{SeatSetup}
+use Rattle.protocol_runs.specs.Prelude.{request_at, request_message, request_messages, SeatSetup}
 use Rattle.sequencer.specs.declared.issued.Issued.{Issued}
 use Rattle.world_state.specs.declared.seat.SeatAt.{SeatAt}
-use Rattle.world_state.specs.Seated.{setup_of, setups_in}
-use Rattle.world_state.specs.Requests.{HasRoomFor}
-use Rattle.world_state.specs.Turned.{numbers_of}
+use Rattle.world_state.specs.Prelude.{setup_of, setups_in, HasRoomFor, numbers_of}
 use Rattle.world_state.specs.declared.requests.Requests.{Requests}
 
 -- a seat that isn't there gets no message

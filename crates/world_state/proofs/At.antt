@@ -3,9 +3,9 @@ use Rattle.std.proofs.Common.{◌≡◌, ◌<◌, ℕ, zero, suc, List, [], ◌�
 use Rattle.std.proofs.lemmas.List.{map-set}
 use Rattle.std.proofs.Math.Seq.{map-set_same}
 use Rattle.protocol_runs.specs.World as runs
-use Rattle.ctl_face.specs.Ctl.{Ctl}
+use Rattle.ctl_face.specs.Prelude.{Ctl}
 use Rattle.world_state.specs.declared.place.Place.{Place}
-use Rattle.world_state.specs.Places.{made_by, made_in, place_with, places_with}
+use Rattle.world_state.specs.Prelude.{made_by, made_in, place_with, places_with}
 
 module _ (items : List Place) (k : ℕ) (d y : Place) where
   pub place-same : (held : Ctl) → place_with held y ≡ place_with held (get_or items k d) → places_with held (set items k y) ≡ places_with held items

@@ -1,13 +1,13 @@
 -- Sequencers that are put back as they were taken leave the places as they were.
 use Rattle.std.proofs.Common.{◌≡◌, ◌+◌, ℕ, List, [], ◌∷◌, None, refl, ◌∙◌, ap}
 use Rattle.std.specs.List.{AllPairs}
-use Rattle.protocol_runs.specs.Step.{changed_from}
+use Rattle.protocol_runs.specs.Prelude.{changed_from, seats_in}
 use Rattle.protocol_runs.specs.World as runs
-use Rattle.ctl_face.specs.Ctl.{Ctl}
-use Rattle.protocol_runs.specs.Turn.{seats_in}
-use Rattle.sequencer.specs.Drive.{Drive}
+use Rattle.ctl_face.specs.Prelude.{Ctl}
+use Rattle.sequencer.specs.Prelude.{Drive}
 use Rattle.world_state.specs.declared.seat.SeatAt.{SeatAt}
-use Rattle.world_state.specs.Seated.{AreApart, controllers_in, seated, setups_in}
+use Rattle.world_state.specs.Seated.{AreApart}
+use Rattle.world_state.specs.Prelude.{controllers_in, seated, setups_in}
 use Rattle.world_state.proofs.Served.{served-places}
 
 -- a driver that does nothing

@@ -5,31 +5,19 @@ use Rattle.std.proofs.lemmas.List.{length-map}
 use Rattle.run_journal.specs.declared.event.Event.TheVariants.{Turn}
 use Rattle.run_journal.specs.declared.verdict.Verdict.{Verdict}
 use Rattle.run_journal.specs.declared.verdict.Verdict.TheVariants.{Stop}
-use Rattle.ruby_value.specs.Ascending.{has_mark}
+use Rattle.ruby_value.specs.Prelude.{has_mark}
 use Rattle.ruby_value.specs.declared.message.Message.{Message}
-use Rattle.protocol_runs.specs.Change.{Closes, IsIdle}
-use Rattle.protocol_runs.specs.RunRules.{Rules}
-use Rattle.protocol_runs.specs.Step.{Stepped, is_busy, stopped_by}
-use Rattle.protocol_runs.specs.Verdict.{least_stopped}
+use Rattle.protocol_runs.specs.Prelude.{Closes, IsIdle, Rules, Stepped, is_busy, stopped_by, least_stopped, World, Meaning, rules, Setting}
 use Rattle.protocol_runs.specs.World as runs
-use Rattle.protocol_runs.specs.World.{World}
 use Rattle.protocol_runs.proofs.Steps.{change-steps}
-use Rattle.ctl_face.specs.Ctl.{Ctl}
-use Rattle.ctl_store.specs.Kept.{ctl_of}
-use Rattle.protocol_runs.specs.Meaning.{Meaning}
-use Rattle.protocol_runs.specs.Rules.{rules}
-use Rattle.protocol_runs.specs.Setting.{Setting}
-use Rattle.sequencer.specs.Drive.{Drive}
-use Rattle.sequencer.specs.Seats.{Seat}
-use Rattle.world_state.specs.Cycle.{has_stopped, stopped_by as stopped_at}
+use Rattle.ctl_face.specs.Prelude.{Ctl}
+use Rattle.ctl_store.specs.Prelude.{ctl_of}
+use Rattle.sequencer.specs.Prelude.{Drive, Seat}
+use Rattle.world_state.specs.Prelude.{has_stopped, stopped_by as stopped_at, IsHomeBy, is_free, made_in, marks_by, place_by, place_with, places_with, IsClosed, IsRested, AreMade, IsHeldIn, IsKept, IsLone, IsNobody, world_of, IsStep}
 use Rattle.world_state.specs.declared.place.Keeper.{Keeper}
 use Rattle.world_state.specs.declared.place.Keeper.TheVariants.{World as Home, Worker}
 use Rattle.world_state.specs.declared.place.Place.{Place}
-use Rattle.world_state.specs.Places.{IsHomeBy, is_free, made_in, marks_by, place_by, place_with, places_with}
 use Rattle.world_state.specs.declared.state.State.{State}
-use Rattle.world_state.specs.Closed.{IsClosed, IsRested}
-use Rattle.world_state.specs.States.{AreMade, IsHeldIn, IsKept, IsLone, IsNobody, world_of}
-use Rattle.world_state.specs.Steps.{IsStep}
 use Rattle.world_state.proofs.Stepping.{stays-kept}
 use Rattle.world_state.proofs.Worlds.{home-at}
 

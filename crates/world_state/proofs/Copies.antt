@@ -13,17 +13,12 @@ use Rattle.ruby_value.specs.declared.message.Message.{Message}
 use Rattle.ruby_value.specs.declared.message.MsgNo.{MsgNo}
 use Rattle.ruby_value.specs.declared.message.Sent.{Sent}
 use Rattle.ruby_value.specs.declared.setup.MachineSetup.{MachineSetup}
-use Rattle.ruby_value.specs.NumberBefore.{same_number}
-use Rattle.ruby_value.specs.NumbersFrom.{numbers_from}
-use Rattle.protocol_runs.specs.Account.{times}
+use Rattle.ruby_value.specs.Prelude.{same_number, numbers_from}
+use Rattle.protocol_runs.specs.Prelude.{times, mailed}
 use Rattle.protocol_runs.specs.RunRules as runs_rules
 use Rattle.protocol_runs.proofs.Tallies.{counted, one, tally}
-use Rattle.ctl_face.specs.Acts.{sent_of}
-use Rattle.ctl_face.specs.Ctl.{Ctl, InboxMessage}
-use Rattle.ctl_face.specs.LocalView.{LocalView}
-use Rattle.ctl_face.specs.OfMachine.{TakesFields}
-use Rattle.ctl_mail.specs.MailOf.{IsNewIn}
-use Rattle.protocol_runs.specs.Rules.{mailed}
+use Rattle.ctl_face.specs.Prelude.{sent_of, Ctl, InboxMessage, LocalView, TakesFields}
+use Rattle.ctl_mail.specs.Prelude.{IsNewIn}
 
 -- what holds of mapped elements
 unmap-all : {X Y : Type 0} (P : Y → Type 0) (f : X → Y) (xs : List X) → All P (map f xs) → All (λ x. P (f x)) xs

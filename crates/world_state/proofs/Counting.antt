@@ -6,8 +6,8 @@ use Rattle.std.specs.List.{flat_map}
 use Rattle.std.specs.Option.{ForSome}
 use Rattle.run_journal.specs.declared.entry.Entry.{Entry}
 use Rattle.ruby_value.specs.declared.message.MsgNo.{MsgNo}
-use Rattle.protocol_runs.specs.Account.{consumed_in, consumed_numbers, sent_in, sent_numbers}
-use Rattle.world_state.specs.Booked.{AreCounted}
+use Rattle.protocol_runs.specs.Prelude.{consumed_in, consumed_numbers, sent_in, sent_numbers}
+use Rattle.world_state.specs.Prelude.{AreCounted}
 
 one-more : (f : Entry → List MsgNo) (journal : List Entry) (e : Entry) → length (flat_map f (journal ++ e ∷ [])) ≡ length (flat_map f journal) + length (f e)
 one-more f journal e =

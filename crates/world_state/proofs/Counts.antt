@@ -9,15 +9,7 @@ use Rattle.run_journal.specs.declared.entry.Entry.{Entry}
 use Rattle.run_journal.specs.declared.event.Event.{Event}
 use Rattle.run_journal.specs.declared.event.Event.TheVariants.{Turn}
 use Rattle.run_journal.specs.declared.verdict.Verdict.{Verdict}
-use Rattle.protocol_runs.specs.Account.{consumed_in, consumed_numbers, sent_in, sent_numbers}
-use Rattle.protocol_runs.specs.Change.{Change, Closes, IsIdle, Moves, Turns}
-use Rattle.protocol_runs.specs.Outcome.{ContinuesAt, EndsWith, IsOutcome, StopsAt, driven_world, entry_of, messages_in}
-use Rattle.protocol_runs.specs.Premises.{CarriesMail, IsSound}
-use Rattle.protocol_runs.specs.RunRules.{DriverTurn, Mailed, Rules}
-use Rattle.protocol_runs.specs.Run.{IsRun, Ran, start}
-use Rattle.protocol_runs.specs.Step.{Stepped, after_driver, begun_place, delivery_numbers, driver_turn_in, next_in, next_world, verdict_in}
-use Rattle.protocol_runs.specs.Verdict.{held_mail, least_stopped}
-use Rattle.protocol_runs.specs.World.{Place, World}
+use Rattle.protocol_runs.specs.Prelude.{consumed_in, consumed_numbers, sent_in, sent_numbers, Change, Closes, IsIdle, Moves, Turns, ContinuesAt, EndsWith, IsOutcome, StopsAt, driven_world, entry_of, messages_in, CarriesMail, IsSound, DriverTurn, Mailed, Rules, IsRun, Ran, start, Stepped, after_driver, begun_place, delivery_numbers, driver_turn_in, next_in, next_world, verdict_in, held_mail, least_stopped, Place, World}
 use Rattle.protocol_runs.proofs.Accounted.{kept-along}
 use Rattle.protocol_runs.proofs.Outcomes.{change-outcome}
 use Rattle.protocol_runs.proofs.Runs.{Goes, hold-along, run-more, with_step}

@@ -3,36 +3,26 @@ use Rattle.std.proofs.Common.{◌≡◌, ◌<◌, ◌≤◌, ◌+◌, ◌^◌, �
 use Rattle.std.proofs.lemmas.List.{length-map}
 use Rattle.std.proofs.lemmas.List.Elements.{All-weaker}
 use Rattle.std.specs.List.{All}
-use Rattle.ruby_value.specs.Requests.{IsRequest}
-use Rattle.ruby_value.specs.Roomy.{Roomy}
+use Rattle.ruby_value.specs.Prelude.{IsRequest, Roomy}
 use Rattle.ruby_value.specs.declared.fault.Finding.{Finding}
 use Rattle.ruby_value.specs.declared.message.Delivery.{Delivery}
 use Rattle.ruby_value.specs.declared.message.Message.{Message}
 use Rattle.ruby_value.specs.declared.message.MsgNo.{MsgNo}
 use Rattle.run_journal.specs.declared.entry.Entry.{Entry}
 use Rattle.protocol_runs.specs.World as runs
-use Rattle.ctl_face.specs.Ctl.{Ctl}
-use Rattle.protocol_runs.specs.Requests.{request_messages}
-use Rattle.protocol_runs.specs.Turn.{seat_in, seats_in}
+use Rattle.ctl_face.specs.Prelude.{Ctl}
+use Rattle.protocol_runs.specs.Prelude.{request_messages, seat_in, seats_in}
 use Rattle.sequencer.specs.declared.issued.Issued.{Issued}
 use Rattle.sequencer.specs.declared.owned_seat.OwnedSeat.{OwnedSeat}
-use Rattle.sequencer.specs.Drive.{Drive, after_drive}
-use Rattle.sequencer.specs.OwnedSeats.{seat_of, seats_of}
-use Rattle.sequencer.specs.Seats.{FitSeats, Seat, Seating}
-use Rattle.world_state.specs.Arrivals.{HasRoom, HasRoomBy, delivered}
-use Rattle.world_state.specs.Cycle.{HasLine}
+use Rattle.sequencer.specs.Prelude.{Drive, after_drive, seat_of, seats_of, FitSeats, Seat, Seating}
+use Rattle.world_state.specs.Prelude.{HasRoom, HasRoomBy, delivered, HasLine, IsHome, Made, made_by, made_in, places_with, IsHomeIn, controllers_in, seated, setup_of, setups_in, Booked, AreOut, CanEnd, HasRoomToAct, IsActed, IsReadyToAct, IsActIn, IsDriven, IsReady, messages_in, numbers_of, requests_in, seated_in, seating_in}
 use Rattle.world_state.specs.declared.place.Keeper.{Keeper}
 use Rattle.world_state.specs.declared.place.Keeper.TheVariants.{World, Worker}
 use Rattle.world_state.specs.declared.place.Place.{Place}
-use Rattle.world_state.specs.Places.{IsHome, Made, made_by, made_in, places_with}
 use Rattle.world_state.specs.declared.seat.SeatAt.{SeatAt}
-use Rattle.world_state.specs.Seated.{IsHomeIn, controllers_in, seated, setup_of, setups_in}
-use Rattle.world_state.specs.Booked.{Booked}
 use Rattle.world_state.specs.declared.state.State.{State}
-use Rattle.world_state.specs.Driving.{AreOut, CanEnd, HasRoomToAct, IsActed, IsReadyToAct}
 use Rattle.world_state.specs.declared.driving.Told.{Told}
-use Rattle.world_state.specs.declared.ready.Room.{Room}
-use Rattle.world_state.specs.Turned.{IsActIn, IsDriven, IsReady, messages_in, numbers_of, requests_in, seated_in, seating_in}
+use Rattle.world_state.specs.declared.fires.Room.{Room}
 
 -- there are as many seats as the driver has
 pub seat-count : (seats : List SeatAt) (xs : List Ctl) → length (seats_in (setups_in seats) xs) ≡ length seats

@@ -4,22 +4,12 @@ use Rattle.run_journal.specs.declared.event.Event.TheVariants.{Fire}
 use Rattle.run_journal.specs.declared.entry.FireNote.{FireNote}
 use Rattle.ruby_value.specs.declared.message.Delivery.{Delivery}
 use Rattle.ruby_value.specs.declared.message.Message.{Message}
-use Rattle.protocol_runs.specs.Change.{FiredBy}
-use Rattle.protocol_runs.specs.RunRules.{Acts, Fired, Rules}
-use Rattle.protocol_runs.specs.Step.{fired_entry}
+use Rattle.protocol_runs.specs.Prelude.{FiredBy, Acts, Fired, Rules, fired_entry, Meaning, rules, Setting}
 use Rattle.protocol_runs.specs.World as runs
-use Rattle.ctl_face.specs.Between.{with_one_fired}
-use Rattle.ctl_face.specs.Ctl.{Ctl}
-use Rattle.protocol_runs.specs.Meaning.{Meaning}
-use Rattle.protocol_runs.specs.Rules.{rules}
-use Rattle.protocol_runs.specs.Setting.{Setting}
-use Rattle.sequencer.specs.Drive.{Drive}
-use Rattle.sequencer.specs.Seats.{Seat}
-use Rattle.world_state.specs.Arrivals.{delivered}
-use Rattle.world_state.specs.Places.{Made, made_in, place_with, places_with}
+use Rattle.ctl_face.specs.Prelude.{with_one_fired, Ctl}
+use Rattle.sequencer.specs.Prelude.{Drive, Seat}
+use Rattle.world_state.specs.Prelude.{delivered, Made, made_in, place_with, places_with, held_place, AreMade, IsHeldIn, IsKept, IsLone, IsStep, SameCycle, Writes}
 use Rattle.world_state.specs.declared.state.State.{State}
-use Rattle.world_state.specs.States.{held_place, AreMade, IsHeldIn, IsKept, IsLone}
-use Rattle.world_state.specs.Steps.{IsStep, SameCycle, Writes}
 use Rattle.world_state.proofs.Stepping.{moves, stays-kept}
 use Rattle.world_state.proofs.Worlds.{delivers, held-same, place-at}
 

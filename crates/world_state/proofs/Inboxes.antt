@@ -3,11 +3,9 @@ use Rattle.std.proofs.Common.{◌≡◌, ◌≢◌, List, Bool, ◌∷◌, ◌++
 use Rattle.std.proofs.lemmas.List.Elements.{All-append, All-cons, All-filter}
 use Rattle.ruby_value.specs.declared.message.Message.{Message}
 use Rattle.ruby_value.specs.declared.message.MsgNo.{MsgNo}
-use Rattle.ruby_value.specs.Inserted.{inserted}
-use Rattle.ruby_value.specs.NumberBefore.{number_before}
-use Rattle.ctl_face.specs.Between.{with_arrival}
-use Rattle.ctl_face.specs.Ctl.{Ctl, InboxMessage}
-use Rattle.ctl_mail.specs.MailOf.{IsNewIn}
+use Rattle.ruby_value.specs.Prelude.{inserted, number_before}
+use Rattle.ctl_face.specs.Prelude.{with_arrival, Ctl, InboxMessage}
+use Rattle.ctl_mail.specs.Prelude.{IsNewIn}
 
 all-inserted : {X : Type 0} (P : X → Type 0) (before : X → X → Bool) (items : List X) (item : X) → All P items → P item → All P (inserted before items item)
 all-inserted P before items item all holds =

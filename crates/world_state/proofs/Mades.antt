@@ -2,9 +2,8 @@
 use Rattle.std.proofs.Common.{◌≡◌, ◌≢◌, ℕ, List, Option, None, Some, refl, sym, ◌∙◌, ap, subst, slice_get, slice_set}
 use Rattle.std.proofs.lemmas.Option.{same_Some}
 use Rattle.protocol_runs.proofs.Places.{set-at}
-use Rattle.protocol_runs.specs.Setting.{Setting}
-use Rattle.world_state.specs.Places.{Made}
-use Rattle.world_state.specs.States.{AreMade, IsHeldIn, IsLone, IsMadeFor, IsNobody}
+use Rattle.protocol_runs.specs.Prelude.{Setting}
+use Rattle.world_state.specs.Prelude.{Made, AreMade, IsHeldIn, IsLone, IsMadeFor, IsNobody}
 
 module _ (mades : List (Option Made)) (c : ℕ) (o : Option Made) (there : slice_get mades c ≡ Some o) where
   -- a controller is taken

@@ -3,10 +3,10 @@ use Rattle.std.proofs.Common.{◌≡◌, ◌<◌, ◌≤◌, ◌+◌, ◌==◌, 
 use Rattle.std.specs.List.{All, Contains}
 use Rattle.std.proofs.lemmas.Bool.{eq-eqb, eqb-true, ltb-true, ltb-false, lt-ltb, le-ltb}
 use Rattle.std.proofs.lemmas.List.Elements.{All-cons, All-nil, All-head, All-tail, All-contains, All-weaker}
-use Rattle.ruby_value.specs.Ascending.{has_mark}
+use Rattle.ruby_value.specs.Prelude.{has_mark}
 use Rattle.ruby_value.proofs.Contained.{Contains-cons_here, Contains-cons_there}
-use Rattle.protocol_runs.specs.Verdict.{above, earlier, least_above}
-use Rattle.ctl_mail.specs.Marks.{IsLeastFrom, IsNextMark}
+use Rattle.protocol_runs.specs.Prelude.{above, earlier, least_above}
+use Rattle.ctl_mail.specs.Prelude.{IsLeastFrom, IsNextMark}
 
 -- there is one next mark at most
 pub one-next : (marks : List ℕ) (from : ℕ) (a b : Option ℕ) → IsNextMark marks from a → IsNextMark marks from b → a ≡ b

@@ -4,23 +4,15 @@ use Rattle.ruby_value.specs.declared.message.Message.{Message}
 use Rattle.run_journal.specs.declared.entry.Entry.{Entry}
 use Rattle.run_journal.specs.declared.event.Event.{Event}
 use Rattle.run_journal.specs.declared.verdict.Verdict.{Verdict}
-use Rattle.protocol_runs.specs.RunRules.{Rules}
-use Rattle.protocol_runs.specs.Run.{IsRun}
+use Rattle.protocol_runs.specs.Prelude.{Rules, IsRun, World, opening, opening_place, Meaning, opening_of, rules, Setting}
 use Rattle.protocol_runs.specs.World as runs
-use Rattle.protocol_runs.specs.World.{World, opening, opening_place}
-use Rattle.ctl_face.specs.Ctl.{Ctl}
-use Rattle.ctl_store.specs.Kept.{ctl_of}
-use Rattle.protocol_runs.specs.Meaning.{Meaning}
-use Rattle.protocol_runs.specs.Rules.{opening_of, rules}
-use Rattle.protocol_runs.specs.Setting.{Setting}
-use Rattle.sequencer.specs.Drive.{Drive}
-use Rattle.sequencer.specs.Seats.{Seat}
+use Rattle.ctl_face.specs.Prelude.{Ctl}
+use Rattle.ctl_store.specs.Prelude.{ctl_of}
+use Rattle.sequencer.specs.Prelude.{Drive, Seat}
 use Rattle.world_state.specs.declared.place.Kept.{Kept}
 use Rattle.world_state.specs.declared.place.Place.{Place}
-use Rattle.world_state.specs.Places.{Made, made_for, made_in, places_with}
+use Rattle.world_state.specs.Prelude.{Made, made_for, made_in, places_with, IsOpening, AreMade, IsHeldIn, IsKept, IsLone, IsMadeFor, IsNobody, home_place, world_of}
 use Rattle.world_state.specs.declared.state.State.{State}
-use Rattle.world_state.specs.Opened.{IsOpening}
-use Rattle.world_state.specs.States.{AreMade, IsHeldIn, IsKept, IsLone, IsMadeFor, IsNobody, home_place, world_of}
 use Rattle.world_state.proofs.Mades.{nobody-lone}
 
 abbrev all_home : List Kept → List Place

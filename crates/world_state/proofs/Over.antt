@@ -4,7 +4,7 @@ use Rattle.ruby_value.specs.declared.fault.Finding.{Finding}
 use Rattle.ruby_value.specs.declared.message.MsgNo.{MsgNo}
 use Rattle.run_journal.specs.declared.verdict.Verdict.{Verdict}
 use Rattle.world_state.specs.declared.state.State.{State}
-use Rattle.world_state.specs.Turned.{GoesOn, IsCycleEnded, next_in}
+use Rattle.world_state.specs.Prelude.{GoesOn, IsCycleEnded, next_in}
 
 stands-by : {D : Type 0} (old new : State D) (next : Option ℕ) (v : Option Verdict) → old.verdict ≡ None → GoesOn next v old new → v ≡ new.verdict
 stands-by old new None (Some v) running goes = sym goes.verdict_is

@@ -4,21 +4,16 @@ use Rattle.std.specs.List.{list_any, position, position_or_len}
 use Rattle.std.proofs.lemmas.Bool.{cases_lt, cond-true, lt-ltb, or_parts}
 use Rattle.std.proofs.lemmas.List.Sums.{fails_before_first}
 use Rattle.std.proofs.lemmas.Option.{get_or_from_slice_get, slice_get_within}
-use Rattle.ruby_value.specs.Ascending.{has_mark}
+use Rattle.ruby_value.specs.Prelude.{has_mark}
 use Rattle.ruby_value.specs.declared.message.Message.{Message}
-use Rattle.protocol_runs.specs.RunRules.{Rules}
+use Rattle.protocol_runs.specs.Prelude.{Rules, Meaning, rules, Setting}
 use Rattle.protocol_runs.specs.World as runs
-use Rattle.ctl_face.specs.Ctl.{Ctl}
-use Rattle.protocol_runs.specs.Meaning.{Meaning}
-use Rattle.protocol_runs.specs.Rules.{rules}
-use Rattle.protocol_runs.specs.Setting.{Setting}
-use Rattle.sequencer.specs.Drive.{Drive}
-use Rattle.sequencer.specs.Seats.{Seat}
+use Rattle.ctl_face.specs.Prelude.{Ctl}
+use Rattle.sequencer.specs.Prelude.{Drive, Seat}
 use Rattle.world_state.specs.declared.place.Keeper.{Keeper}
 use Rattle.world_state.specs.declared.place.Keeper.TheVariants.{World, Worker}
 use Rattle.world_state.specs.declared.place.Place.{Place}
-use Rattle.world_state.specs.Places.{is_free, is_held, made_by, made_in, marks_by, place_by, place_with, places_with}
-use Rattle.world_state.specs.States.{IsHeldIn, IsNobody}
+use Rattle.world_state.specs.Prelude.{is_free, is_held, made_by, made_in, marks_by, place_by, place_with, places_with, IsHeldIn, IsNobody}
 use Rattle.world_state.proofs.Closings.{position-mapped}
 
 and-true : (b : Bool) → (b && true) ≡ b

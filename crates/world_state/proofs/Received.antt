@@ -7,40 +7,25 @@ use Rattle.std.specs.List.{AllPairs}
 use Rattle.ruby_value.specs.declared.message.Delivery.{Delivery}
 use Rattle.ruby_value.specs.declared.message.Message.{Message}
 use Rattle.ruby_value.specs.declared.message.Sent.{Sent}
-use Rattle.ruby_value.specs.NumbersFrom.{numbers_from}
-use Rattle.protocol_runs.specs.Fresh.{given, given_at}
-use Rattle.protocol_runs.specs.RunRules.{Rules}
-use Rattle.protocol_runs.specs.Step.{changed_from, driver_turn_in}
+use Rattle.ruby_value.specs.Prelude.{numbers_from}
+use Rattle.protocol_runs.specs.Prelude.{given, given_at, Rules, changed_from, driver_turn_in, World, SuitsReceiver, Meaning, rules, Setting, acts_at, served}
 use Rattle.protocol_runs.specs.World as runs
-use Rattle.protocol_runs.specs.World.{World}
 use Rattle.protocol_runs.proofs.Places.{changed, paired-back}
-use Rattle.ctl_face.specs.Acts.{sent_of}
-use Rattle.ctl_face.specs.Ctl.{Ctl, Mail}
+use Rattle.ctl_face.specs.Prelude.{sent_of, Ctl, Mail}
 use Rattle.ctl_face.proofs.Betweens.{driver_mail}
-use Rattle.ctl_mail.specs.MailOf.{IsNewIn}
-use Rattle.protocol_runs.specs.Kept.{SuitsReceiver}
-use Rattle.protocol_runs.specs.Meaning.{Meaning}
-use Rattle.protocol_runs.specs.Rules.{rules}
-use Rattle.protocol_runs.specs.Setting.{Setting}
-use Rattle.protocol_runs.specs.Turn.{acts_at, served}
+use Rattle.ctl_mail.specs.Prelude.{IsNewIn}
 use Rattle.protocol_runs.proofs.Driver.{IsDriver}
 use Rattle.protocol_runs.proofs.Lawful.{fresh}
 use Rattle.protocol_runs.proofs.Scans.{maps-join}
-use Rattle.sequencer.specs.Drive.{Drive}
-use Rattle.sequencer.specs.Seats.{Seat}
+use Rattle.sequencer.specs.Prelude.{Drive, Seat}
 use Rattle.world_state.specs.Arrivals as arrivals
-use Rattle.world_state.specs.Arrivals.{CanArrive}
+use Rattle.world_state.specs.Prelude.{CanArrive, Made, made_by, made_in, places_with, controllers_in, setups_in, AreMade, IsHeldIn, IsNobody, world_of, IsActIn, requests_in, seated_in, IsOfRun}
 use Rattle.world_state.specs.declared.place.Place.{Place}
-use Rattle.world_state.specs.Places.{Made, made_by, made_in, places_with}
 use Rattle.world_state.specs.declared.seat.SeatAt.{SeatAt}
-use Rattle.world_state.specs.Seated.{controllers_in, setups_in}
 use Rattle.world_state.proofs.Served.{served-places}
 use Rattle.world_state.specs.declared.state.State.{State}
-use Rattle.world_state.specs.States.{AreMade, IsHeldIn, IsNobody, world_of}
 use Rattle.world_state.proofs.Arriving.{Comes, can-arrive}
 use Rattle.world_state.proofs.Copies.{IsNext, new-in, posted-apart, posted-next}
-use Rattle.world_state.specs.Turned.{IsActIn, requests_in, seated_in}
-use Rattle.world_state.specs.Turning.{IsOfRun}
 use Rattle.world_state.proofs.Acting.{asked, count, fits, lawful-rules, mail-rules, requests-are, seats-apart}
 
 all-pass : {X : Type 0} (xs : List X) → filter (λ (x : X). true) xs ≡ xs

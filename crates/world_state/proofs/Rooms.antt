@@ -7,14 +7,13 @@ use Rattle.ruby_value.specs.declared.message.Message.{Message}
 use Rattle.ruby_value.specs.declared.setup.MachineSetup.{MachineSetup}
 use Rattle.protocol_runs.specs.World as runs
 use Rattle.protocol_runs.proofs.Places.{mapped-from}
-use Rattle.ctl_face.specs.Ctl.{Ctl}
-use Rattle.ctl_mail.specs.MailOf.{IsNewIn}
-use Rattle.ctl_store.specs.Kept.{ctl_of}
-use Rattle.world_state.specs.Arrivals.{CanArrive, SuitsBy, Takes, TakesAt}
+use Rattle.ctl_face.specs.Prelude.{Ctl}
+use Rattle.ctl_mail.specs.Prelude.{IsNewIn}
+use Rattle.ctl_store.specs.Prelude.{ctl_of}
+use Rattle.world_state.specs.Prelude.{CanArrive, SuitsBy, Takes, TakesAt, Made, made_by, made_in, place_by, place_with, places_with}
 use Rattle.world_state.specs.declared.place.Keeper.{Keeper}
 use Rattle.world_state.specs.declared.place.Keeper.TheVariants.{World, Worker}
 use Rattle.world_state.specs.declared.place.Place.{Place}
-use Rattle.world_state.specs.Places.{Made, made_by, made_in, place_by, place_with, places_with}
 use Rattle.protocol_runs.proofs.Controllers.{and-some, some-and}
 use Rattle.world_state.proofs.Worlds.{made-at, place-at}
 

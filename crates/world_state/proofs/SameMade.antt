@@ -3,9 +3,8 @@ use Rattle.std.proofs.Common.{◌≡◌, ℕ, ap, ◌∙◌}
 use Rattle.ruby_value.specs.declared.setup.MachineSetup.{MachineSetup}
 use Rattle.ctl_face.specs.declared.routes.Routes.{Routes}
 use Rattle.ctl_store.specs.declared.parts.Parts.{Parts}
-use Rattle.ctl_store.specs.Kept.{machine_of, me_of}
-use Rattle.ctl_store.specs.Room.{IsSameStore}
-use Rattle.world_state.specs.Places.{Made}
+use Rattle.ctl_store.specs.Prelude.{machine_of, me_of, IsSameStore}
+use Rattle.world_state.specs.Prelude.{Made}
 
 pub same-made : (first second third : Parts) (routes : Routes) → IsSameStore first second → IsSameStore second third
     → ◌≡◌ {A = Made} (record { machine = machine_of third; me = me_of third; routes = routes }) (record { machine = machine_of first; me = me_of first; routes = routes })

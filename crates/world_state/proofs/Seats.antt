@@ -6,13 +6,14 @@ use Rattle.std.proofs.lemmas.Option.{same_Some, slice_get_within}
 use Rattle.std.specs.List.{AllPairs}
 use Rattle.std.specs.Option.{option_map}
 use Rattle.ruby_value.proofs.Ordered.{AllPairs-head, AllPairs-tail}
-use Rattle.ruby_value.specs.Requests.{Requests}
+use Rattle.ruby_value.specs.Prelude.{Requests}
 use Rattle.protocol_runs.specs.World as runs
 use Rattle.protocol_runs.proofs.Places.{set-at}
-use Rattle.ctl_face.specs.Ctl.{Ctl}
-use Rattle.sequencer.specs.Seats.{Seat}
+use Rattle.ctl_face.specs.Prelude.{Ctl}
+use Rattle.sequencer.specs.Prelude.{Seat}
 use Rattle.world_state.specs.declared.seat.SeatAt.{SeatAt}
-use Rattle.world_state.specs.Seated.{AreApart, seated, seated_one, with_requests, with_requests_at}
+use Rattle.world_state.specs.Seated.{AreApart}
+use Rattle.world_state.specs.Prelude.{seated, seated_one, with_requests, with_requests_at}
 
 abbrev Place : Type 0
 Place = runs.Place Ctl

@@ -7,21 +7,18 @@ use Rattle.std.proofs.lemmas.Option.{same_Some, slice_get-map}
 use Rattle.std.specs.List.{AllPairs, flat_map}
 use Rattle.std.specs.Option.{option_map}
 use Rattle.ruby_value.proofs.Ordered.{AllPairs-head, AllPairs-nil, AllPairs-tail}
-use Rattle.ruby_value.specs.Requests.{Requests}
-use Rattle.protocol_runs.specs.Step.{changed_from}
+use Rattle.ruby_value.specs.Prelude.{Requests}
+use Rattle.protocol_runs.specs.Prelude.{changed_from, SeatSetup, acts_at, is_seat_of, issued_at, seat_with, seats_in, served, taken_at}
 use Rattle.protocol_runs.specs.World as runs
 use Rattle.protocol_runs.proofs.Places.{AreChanged, changed}
-use Rattle.ctl_face.specs.Between.{DriverAct, Issues, Takes, after_driver_act, after_driver_acts}
-use Rattle.ctl_face.specs.Ctl.{Ctl}
+use Rattle.ctl_face.specs.Prelude.{DriverAct, Issues, Takes, after_driver_act, after_driver_acts, Ctl}
 use Rattle.protocol_runs.specs.IsSetting as setting
-use Rattle.protocol_runs.specs.Setting.{SeatSetup}
-use Rattle.protocol_runs.specs.Turn.{acts_at, is_seat_of, issued_at, seat_with, seats_in, served, taken_at}
 use Rattle.protocol_runs.proofs.Seating.{seats-served}
 use Rattle.sequencer.specs.declared.issued.Issued.{Issued}
-use Rattle.sequencer.specs.Drive.{Drive, Taken, after_drive}
-use Rattle.sequencer.specs.Seats.{Seat}
+use Rattle.sequencer.specs.Prelude.{Drive, Taken, after_drive, Seat}
 use Rattle.world_state.specs.declared.seat.SeatAt.{SeatAt}
-use Rattle.world_state.specs.Seated.{AreApart, controllers_in, seated, setup_of, setups_in}
+use Rattle.world_state.specs.Seated.{AreApart}
+use Rattle.world_state.specs.Prelude.{controllers_in, seated, setup_of, setups_in}
 use Rattle.world_state.proofs.Seats.{applied, given, given-by, is_own, same-places, seated-at}
 
 -- a driver changes the requests of a sequencer alone

@@ -3,7 +3,7 @@
 use Rattle.std.proofs.Common.{◌≡◌, ◌+◌, ◌-◌, ◌++◌, ◌||◌, ◌&&◌, not, ℕ, suc, Bool, false, List, [], ◌∷◌, Option, None, Some, length, refl, sym, ◌∙◌, ap, subst, slice_get, arith}
 use Rattle.std.proofs.lemmas.List.{length-map}
 use Rattle.std.specs.List.{list_any, position}
-use Rattle.ruby_value.specs.Ascending.{has_mark}
+use Rattle.ruby_value.specs.Prelude.{has_mark}
 use Rattle.ruby_value.specs.declared.fault.Finding.{Finding}
 use Rattle.ruby_value.specs.declared.message.Delivery.{Delivery}
 use Rattle.ruby_value.specs.declared.message.Message.{Message}
@@ -13,42 +13,23 @@ use Rattle.run_journal.specs.declared.entry.Entry.TheVariants.{Turned}
 use Rattle.run_journal.specs.declared.event.Event.{Event}
 use Rattle.run_journal.specs.declared.event.Event.TheVariants.{Turn}
 use Rattle.run_journal.specs.declared.verdict.Verdict.{Verdict}
-use Rattle.protocol_runs.specs.Account.{consumed_numbers, sent_numbers}
-use Rattle.protocol_runs.specs.Change.{IsIdle, Turns}
-use Rattle.protocol_runs.specs.Outcome.{driven_world}
-use Rattle.protocol_runs.specs.RunRules.{DriverTurn, Rules}
+use Rattle.protocol_runs.specs.Prelude.{consumed_numbers, sent_numbers, IsIdle, Turns, driven_world, DriverTurn, Rules, Stepped, after_driver, changed_from, delivery_numbers, driver_turn_in, is_busy, next_world, earlier, held_mail, least_above, least_stopped, next_cycle, verdict_after, World, FitsRun, HasSeats, SuitsReceiver, Meaning, rules, SeatSetup, Setting, served}
 use Rattle.protocol_runs.specs.Step as step
-use Rattle.protocol_runs.specs.Step.{Stepped, after_driver, changed_from, delivery_numbers, driver_turn_in, is_busy, next_world}
-use Rattle.protocol_runs.specs.Verdict.{earlier, held_mail, least_above, least_stopped, next_cycle, verdict_after}
 use Rattle.protocol_runs.specs.World as runs
-use Rattle.protocol_runs.specs.World.{World}
 use Rattle.protocol_runs.proofs.Steps.{change-steps}
-use Rattle.ctl_face.specs.Ctl.{Ctl}
-use Rattle.protocol_runs.specs.Kept.{FitsRun, HasSeats, SuitsReceiver}
-use Rattle.protocol_runs.specs.Meaning.{Meaning}
-use Rattle.protocol_runs.specs.Rules.{rules}
-use Rattle.protocol_runs.specs.Setting.{SeatSetup, Setting}
-use Rattle.protocol_runs.specs.Turn.{served}
+use Rattle.ctl_face.specs.Prelude.{Ctl}
 use Rattle.protocol_runs.proofs.Driver.{IsDriver}
-use Rattle.sequencer.specs.Drive.{Drive}
-use Rattle.sequencer.specs.Seats.{Seat}
-use Rattle.world_state.specs.Arrivals.{delivered}
-use Rattle.world_state.specs.Cycle.{has_stopped, next_of, stopped_by as stopped_at}
+use Rattle.sequencer.specs.Prelude.{Drive, Seat}
+use Rattle.world_state.specs.Prelude.{delivered, has_stopped, next_of, stopped_by, IsHomeBy, is_free, made_in, marks_by, place_by, place_with, places_with, IsRested, AreMade, IsKept, IsLone, IsNobody, world_of, IsStep, GoesOn, IsActIn, IsSameDriver, IsTurned, messages_in, next_in, numbers_of, requests_in, seated_in, IsOfRun}
 use Rattle.world_state.specs.declared.place.Keeper.{Keeper}
 use Rattle.world_state.specs.declared.place.Keeper.TheVariants.{World as Home, Worker}
 use Rattle.world_state.specs.declared.place.Place.{Place}
-use Rattle.world_state.specs.Places.{IsHomeBy, is_free, made_in, marks_by, place_by, place_with, places_with}
 use Rattle.world_state.specs.declared.seat.SeatAt.{SeatAt}
 use Rattle.world_state.proofs.Served.{served-places}
 use Rattle.world_state.specs.declared.state.State.{State}
-use Rattle.world_state.specs.Closed.{IsRested}
-use Rattle.world_state.specs.States.{AreMade, IsKept, IsLone, IsNobody, world_of}
-use Rattle.world_state.specs.Steps.{IsStep}
 use Rattle.world_state.proofs.Closings.{position-mapped}
 use Rattle.world_state.proofs.Stepping.{stays-kept}
 use Rattle.world_state.proofs.Worlds.{delivers, home-at}
-use Rattle.world_state.specs.Turned.{GoesOn, IsActIn, IsSameDriver, IsTurned, messages_in, next_in, numbers_of, requests_in, seated_in}
-use Rattle.world_state.specs.Turning.{IsOfRun}
 use Rattle.world_state.proofs.Acting.{T, act-is, lawful-rules, mail-rules, requests-are, seats-apart}
 use Rattle.world_state.proofs.Counts.{mail-counts, turn-counts}
 
@@ -83,7 +64,7 @@ module _ {D : Type 0} (p : Meaning) (drive : D → List Seat → ℕ → Drive D
       (rested-by now k.finished k.keeper (home-at (k ∷ places) 0 k nobody refl) (rested 0 k refl))
       ∙ none-busy now places (λ d is. nobody (suc d) is) (λ c x there. rested (suc c) x there)
 
-  stopped-by : (finished : Bool) (k : Keeper) → IsHomeBy k → (place_by held finished k).controller.stopped ≡ stopped_at k
+  stopped-by : (finished : Bool) (k : Keeper) → IsHomeBy k → (place_by held finished k).controller.stopped ≡ stopped_by k
   stopped-by finished (Home k) home = refl
   stopped-by finished (Worker w) home = absurd home
 

@@ -10,28 +10,18 @@ use Rattle.run_journal.specs.declared.event.Event.{Event}
 use Rattle.run_journal.specs.declared.event.Event.TheVariants.{Take, Fire, Done, Release, Turn}
 use Rattle.run_journal.specs.declared.verdict.Verdict.{Verdict}
 use Rattle.ruby_value.specs.declared.message.Message.{Message}
-use Rattle.protocol_runs.specs.Change.{Ends, EndedBy, FiredBy, Move, Moves, Released, Taken}
-use Rattle.protocol_runs.specs.RunRules.{Rules}
-use Rattle.protocol_runs.specs.Run.{IsRun}
-use Rattle.protocol_runs.specs.Step.{Moved, Stepped, with_deliveries}
+use Rattle.protocol_runs.specs.Prelude.{Ends, EndedBy, FiredBy, Move, Moves, Released, Taken, Rules, IsRun, Moved, Stepped, with_deliveries, World, Meaning, rules, Setting}
 use Rattle.protocol_runs.specs.World as runs
-use Rattle.protocol_runs.specs.World.{World}
 use Rattle.protocol_runs.proofs.Runs.{run-more}
 use Rattle.protocol_runs.proofs.Steps.{change-steps}
-use Rattle.ctl_face.specs.Ctl.{Ctl}
-use Rattle.ctl_store.specs.Kept.{ctl_of}
-use Rattle.protocol_runs.specs.Meaning.{Meaning}
-use Rattle.protocol_runs.specs.Rules.{rules}
-use Rattle.protocol_runs.specs.Setting.{Setting}
-use Rattle.sequencer.specs.Drive.{Drive}
-use Rattle.sequencer.specs.Seats.{Seat}
+use Rattle.ctl_face.specs.Prelude.{Ctl}
+use Rattle.ctl_store.specs.Prelude.{ctl_of}
+use Rattle.sequencer.specs.Prelude.{Drive, Seat}
 use Rattle.world_state.specs.declared.place.Keeper.TheVariants as keeper
 use Rattle.world_state.specs.declared.place.Kept.{Kept}
 use Rattle.world_state.specs.declared.place.Place.{Place}
-use Rattle.world_state.specs.Places.{IsEndedAt, IsPutBack, IsTakenOut, Made, is_free, made_by, made_for, made_in, place_with, places_with}
+use Rattle.world_state.specs.Prelude.{IsEndedAt, IsPutBack, IsTakenOut, Made, is_free, made_by, made_for, made_in, place_with, places_with, held_place, home_place, AreMade, IsHeldIn, IsKept, IsLone, IsMadeFor, IsNobody, world_of, IsStep, SameCycle, Writes}
 use Rattle.world_state.specs.declared.state.State.{State}
-use Rattle.world_state.specs.States.{held_place, home_place, AreMade, IsHeldIn, IsKept, IsLone, IsMadeFor, IsNobody, world_of}
-use Rattle.world_state.specs.Steps.{IsStep, SameCycle, Writes}
 use Rattle.world_state.proofs.Mades.{back-made, back-nobody, nobody-lone, taken-at, taken-lone, taken-made}
 use Rattle.world_state.proofs.Worlds.{held-same, made-at, nobody-same, place-at}
 

@@ -6,21 +6,18 @@ use Rattle.std.proofs.lemmas.List.Elements.{All-set}
 use Rattle.std.proofs.lemmas.Option.{slice_get-map, slice_get_read}
 use Rattle.std.specs.Option.{option_and_then, option_map}
 use Rattle.ruby_value.specs.declared.setup.MachineSetup.{MachineSetup}
-use Rattle.ruby_value.specs.Requests.{Requests}
+use Rattle.ruby_value.specs.Prelude.{Requests}
 use Rattle.protocol_runs.specs.World as runs
-use Rattle.ctl_face.specs.Ctl.{Ctl}
+use Rattle.ctl_face.specs.Prelude.{Ctl}
 use Rattle.ctl_store.specs.declared.parts.Parts.{Parts}
-use Rattle.ctl_store.specs.Kept.{ctl_of, machine_of, me_of}
-use Rattle.ctl_store.specs.Room.{HasRoomForMessages, IsSameStore}
-use Rattle.world_state.specs.Arrivals.{HasRoom, HasRoomBy}
+use Rattle.ctl_store.specs.Prelude.{ctl_of, machine_of, me_of, HasRoomForMessages, IsSameStore}
+use Rattle.world_state.specs.Prelude.{HasRoom, HasRoomBy, Made, made_by, made_in, place_by, place_with, places_with, IsHomeIn, controllers_in, seated_one, with_requests, with_requests_at}
 use Rattle.world_state.specs.declared.place.Keeper.{Keeper}
 use Rattle.world_state.specs.declared.place.Keeper.TheVariants as keeper
 use Rattle.world_state.specs.declared.place.Kept.{Kept}
 use Rattle.world_state.specs.declared.place.Place.{Place}
-use Rattle.world_state.specs.Places.{Made, made_by, made_in, place_by, place_with, places_with}
 use Rattle.world_state.proofs.At.{made-same, place-set}
 use Rattle.world_state.specs.declared.seat.SeatAt.{SeatAt}
-use Rattle.world_state.specs.Seated.{IsHomeIn, controllers_in, seated_one, with_requests, with_requests_at}
 
 pub home-within : (places : List Place) (c : ℕ) → IsHomeIn (made_in places) c → c < length places
 home-within [] c none = absurd none

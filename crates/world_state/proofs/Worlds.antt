@@ -4,21 +4,14 @@ use Rattle.std.proofs.lemmas.Option.{slice_get-map}
 use Rattle.std.specs.Option.{option_map}
 use Rattle.ruby_value.specs.declared.message.Delivery.{Delivery}
 use Rattle.ruby_value.specs.declared.message.Message.{Message}
-use Rattle.protocol_runs.specs.RunRules.{Rules}
-use Rattle.protocol_runs.specs.Step.{with_deliveries, with_delivery_at}
+use Rattle.protocol_runs.specs.Prelude.{Rules, with_deliveries, with_delivery_at, Meaning, rules, Setting}
 use Rattle.protocol_runs.specs.World as runs
-use Rattle.ctl_face.specs.Ctl.{Ctl}
-use Rattle.protocol_runs.specs.Meaning.{Meaning}
-use Rattle.protocol_runs.specs.Rules.{rules}
-use Rattle.protocol_runs.specs.Setting.{Setting}
-use Rattle.sequencer.specs.Drive.{Drive}
-use Rattle.sequencer.specs.Seats.{Seat}
-use Rattle.world_state.specs.Arrivals.{delivered, delivered_one, with_arrival_at}
+use Rattle.ctl_face.specs.Prelude.{Ctl}
+use Rattle.sequencer.specs.Prelude.{Drive, Seat}
+use Rattle.world_state.specs.Prelude.{delivered, delivered_one, with_arrival_at, IsHomeBy, Made, made_by, made_in, place_by, place_with, places_with, IsHeldIn, IsLone, IsNobody}
 use Rattle.world_state.specs.declared.place.Keeper.{Keeper}
 use Rattle.world_state.specs.declared.place.Keeper.TheVariants.{World, Worker}
 use Rattle.world_state.specs.declared.place.Place.{Place}
-use Rattle.world_state.specs.Places.{IsHomeBy, Made, made_by, made_in, place_by, place_with, places_with}
-use Rattle.world_state.specs.States.{IsHeldIn, IsLone, IsNobody}
 
 -- two functions that agree on a list, but for one of its elements
 pub all-same : {X Y : Type 0} (f g : X → Y) (xs : List X) → ((d : ℕ) (y : X) → slice_get xs d ≡ Some y → f y ≡ g y) → map f xs ≡ map g xs

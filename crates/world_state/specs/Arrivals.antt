@@ -6,12 +6,10 @@ use Rattle.std.specs.List.{All, AllPairs}
 use Rattle.ruby_value.specs.declared.message.Delivery.{Delivery}
 use Rattle.ruby_value.specs.declared.message.Message.{Message}
 use Rattle.protocol_runs.specs.World as runs
-use Rattle.ctl_face.specs.Between.{with_arrival}
-use Rattle.ctl_face.specs.Ctl.{Ctl}
-use Rattle.ctl_mail.specs.MailOf.{IsNewIn}
+use Rattle.ctl_face.specs.Prelude.{with_arrival, Ctl}
+use Rattle.ctl_mail.specs.Prelude.{IsNewIn}
 use Rattle.ctl_store.specs.declared.parts.Parts.{Parts}
-use Rattle.ctl_store.specs.Kept.{ctl_of, machine_of}
-use Rattle.ctl_store.specs.Room.{HasRoomForMessages}
+use Rattle.ctl_store.specs.Prelude.{ctl_of, machine_of, HasRoomForMessages}
 use Rattle.world_state.specs.declared.place.Keeper.{Keeper}
 use Rattle.world_state.specs.declared.place.Keeper.TheVariants.{World, Worker}
 use Rattle.world_state.specs.declared.place.Place.{Place}

@@ -4,7 +4,7 @@ use Rattle.std.specs.Prelude.{◌≡◌, ℕ, Option, List, length}
 use Rattle.std.specs.Option.{ForSome}
 use Rattle.run_journal.specs.declared.entry.Entry.{Entry}
 use Rattle.run_journal.specs.declared.event.Event.{Event}
-use Rattle.protocol_runs.specs.Account.{consumed_numbers, sent_numbers}
+use Rattle.protocol_runs.specs.Prelude.{consumed_numbers, sent_numbers}
 
 pub record Booked : Type 0 where
   pub history : List Event

@@ -3,12 +3,11 @@
 use Rattle.std.specs.Prelude.{ℕ, Bool, false, Option, List, [], ◌∷◌}
 use Rattle.ruby_value.specs.declared.fault.Finding.{Finding}
 use Rattle.ruby_value.specs.declared.fault.Finding.TheVariants.{Incoherent, Deadlock, Passed}
-use Rattle.ruby_value.specs.Lines.{IsLine}
+use Rattle.ruby_value.specs.Prelude.{IsLine}
 use Rattle.protocol_runs.specs.World as runs
-use Rattle.protocol_runs.specs.Verdict.{earlier, least_above, later}
-use Rattle.ctl_face.specs.Between.{at_cycle}
-use Rattle.ctl_face.specs.Ctl.{Ctl}
-use Rattle.ctl_store.specs.Kept.{ctl_of}
+use Rattle.protocol_runs.specs.Prelude.{earlier, least_above, later}
+use Rattle.ctl_face.specs.Prelude.{at_cycle, Ctl}
+use Rattle.ctl_store.specs.Prelude.{ctl_of}
 use Rattle.world_state.specs.declared.place.Keeper.{Keeper}
 use Rattle.world_state.specs.declared.place.Keeper.TheVariants.{World, Worker}
 use Rattle.world_state.specs.declared.place.Place.{Place}

@@ -2,12 +2,10 @@
 -- driver's seats are moved out of their stores; then the driver acts at its seats, which takes no memory.
 use Rattle.std.specs.Prelude.{◌≡◌, ◌<◌, ◌≤◌, ◌+◌, ◌^◌, ℕ, List, [], IfSome, length}
 use Rattle.std.specs.List.{All}
-use Rattle.ruby_value.specs.Requests.{IsRequest}
-use Rattle.ruby_value.specs.Roomy.{Roomy}
-use Rattle.ctl_face.specs.Ctl.{Ctl}
+use Rattle.ruby_value.specs.Prelude.{IsRequest, Roomy}
+use Rattle.ctl_face.specs.Prelude.{Ctl}
 use Rattle.sequencer.specs.declared.issued.Issued.{Issued}
-use Rattle.sequencer.specs.Drive.{Drive, after_drive}
-use Rattle.sequencer.specs.Seats.{FitSeats, Seat, Seating}
+use Rattle.sequencer.specs.Prelude.{Drive, after_drive, FitSeats, Seat, Seating}
 use Rattle.world_state.specs.Arrivals.{CanArrive, HasRoom, delivered}
 use Rattle.world_state.specs.Cycle.{HasLine}
 use Rattle.world_state.specs.declared.place.Place.{Place}
@@ -17,7 +15,7 @@ use Rattle.world_state.specs.Seated.{IsHomeIn, seated}
 use Rattle.world_state.specs.declared.state.State.{State}
 use Rattle.world_state.specs.Steps.{SameCycle}
 use Rattle.world_state.specs.declared.driving.Told.{Told}
-use Rattle.world_state.specs.declared.ready.Room.{Room}
+use Rattle.world_state.specs.declared.fires.Room.{Room}
 use Rattle.world_state.specs.Requests.{HasRoomFor}
 use Rattle.world_state.specs.Turned.{messages_in, requests_in, seating_in}
 use Rattle.world_state.specs.Turning.{CanTurn}

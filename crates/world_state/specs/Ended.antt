@@ -3,8 +3,7 @@
 use Rattle.std.specs.Prelude.{◌+◌, ℕ, Bool, true, false}
 use Rattle.run_journal.specs.declared.entry.End.{End}
 use Rattle.run_journal.specs.declared.entry.End.TheVariants.{Idle, Full, Stop}
-use Rattle.ctl_face.specs.Between.{with_stop, with_wake_up}
-use Rattle.ctl_face.specs.Ctl.{Ctl}
+use Rattle.ctl_face.specs.Prelude.{with_stop, with_wake_up, Ctl}
 
 abbrev pub rested : Bool → ℕ → Ctl → Ctl
 rested true now x = with_wake_up x (now + 1)

@@ -12,3 +12,4 @@ pub mod Requests
 pub mod Turned
 pub mod Turning
 pub mod Seated
+pub mod Prelude

@@ -2,12 +2,12 @@
 -- places, of which one at most is held at a time. Of each place is known, too, what the store there was made for: the machine, the
 -- controller's number, and the routes that it goes by. That workers hold controllers is this project's own.
 use Rattle.std.specs.Prelude.{◌≡◌, ◌&&◌, ℕ, Bool, true, false, not, Option, None, Some, IsSomeAnd, List, [], map, slice_get, slice_set}
-use Rattle.ruby_value.specs.Ascending.{has_mark}
+use Rattle.ruby_value.specs.Prelude.{has_mark}
 use Rattle.ruby_value.specs.declared.setup.MachineSetup.{MachineSetup}
 use Rattle.protocol_runs.specs.World as runs
-use Rattle.ctl_face.specs.Ctl.{Ctl}
+use Rattle.ctl_face.specs.Prelude.{Ctl}
 use Rattle.ctl_face.specs.declared.routes.Routes.{Routes}
-use Rattle.ctl_store.specs.Kept.{ctl_of, machine_of, me_of}
+use Rattle.ctl_store.specs.Prelude.{ctl_of, machine_of, me_of}
 use Rattle.world_state.specs.declared.place.Keeper.{Keeper}
 use Rattle.world_state.specs.declared.place.Keeper.TheVariants.{World, Worker}
 use Rattle.world_state.specs.declared.place.Kept.{Kept}

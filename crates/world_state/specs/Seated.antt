@@ -1,11 +1,11 @@
 -- The places of controllers after other requests were put into the sequencers of a driver's seats, each seat's into the sequencer of its
 -- controller. A seat without a sequencer changes nothing.
 use Rattle.std.specs.Prelude.{ℕ, ◌≢◌, Option, None, Some, IsSome, IsSomeAnd, List, [], ◌∷◌, map, slice_get, slice_set, if◌then◌else◌}
-use Rattle.ruby_value.specs.Requests.{Requests}
+use Rattle.ruby_value.specs.Prelude.{Requests}
 use Rattle.protocol_runs.specs.World as runs
-use Rattle.ctl_face.specs.Ctl.{Ctl}
-use Rattle.protocol_runs.specs.Setting.{SeatSetup}
-use Rattle.sequencer.specs.Seats.{Seat}
+use Rattle.ctl_face.specs.Prelude.{Ctl}
+use Rattle.protocol_runs.specs.Prelude.{SeatSetup}
+use Rattle.sequencer.specs.Prelude.{Seat}
 use Rattle.world_state.specs.Places.{Made}
 use Rattle.world_state.specs.declared.seat.SeatAt.{SeatAt}
 

@@ -1,15 +1,9 @@
 -- The world of a run, as its data are kept. The controller that a worker holds isn't there, so it is handed in: it is what the worker
 -- has. No two controllers are held at a time. What each store was made for is what the setting says of its controller.
 use Rattle.std.specs.Prelude.{◌≡◌, ◌<◌, ℕ, Bool, Option, None, Some, List, slice_get}
-use Rattle.protocol_runs.specs.Run.{IsRun}
-use Rattle.protocol_runs.specs.World.{World}
-use Rattle.ctl_face.specs.Ctl.{Ctl}
-use Rattle.protocol_runs.specs.Machines.{setup_of}
-use Rattle.protocol_runs.specs.Meaning.{Meaning}
-use Rattle.protocol_runs.specs.Rules.{rules}
-use Rattle.protocol_runs.specs.Setting.{Setting}
-use Rattle.sequencer.specs.Drive.{Drive}
-use Rattle.sequencer.specs.Seats.{Seat}
+use Rattle.protocol_runs.specs.Prelude.{IsRun, World, setup_of, Meaning, rules, Setting}
+use Rattle.ctl_face.specs.Prelude.{Ctl}
+use Rattle.sequencer.specs.Prelude.{Drive, Seat}
 use Rattle.world_state.specs.declared.place.Keeper.TheVariants as keeper
 use Rattle.world_state.specs.declared.place.Kept.{Kept}
 use Rattle.world_state.specs.declared.place.Place.{Place}

@@ -12,14 +12,10 @@ use Rattle.run_journal.specs.declared.entry.Entry.{Entry}
 use Rattle.run_journal.specs.declared.entry.Entry.TheVariants.{Turned}
 use Rattle.run_journal.specs.declared.event.Event.TheVariants.{Turn}
 use Rattle.run_journal.specs.declared.verdict.Verdict.{Verdict}
-use Rattle.protocol_runs.specs.Account.{consumed_numbers, sent_numbers}
-use Rattle.protocol_runs.specs.Verdict.{verdict_after}
+use Rattle.protocol_runs.specs.Prelude.{consumed_numbers, sent_numbers, verdict_after, request_messages, seats_in}
 use Rattle.protocol_runs.specs.World as runs
-use Rattle.ctl_face.specs.Ctl.{Ctl}
-use Rattle.protocol_runs.specs.Requests.{request_messages}
-use Rattle.protocol_runs.specs.Turn.{seats_in}
-use Rattle.sequencer.specs.Drive.{Drive, after_drive}
-use Rattle.sequencer.specs.Seats.{FitSeats, Seat, Seating}
+use Rattle.ctl_face.specs.Prelude.{Ctl}
+use Rattle.sequencer.specs.Prelude.{Drive, after_drive, FitSeats, Seat, Seating}
 use Rattle.world_state.specs.Arrivals.{delivered}
 use Rattle.world_state.specs.Cycle.{begun_at, next_of}
 use Rattle.world_state.specs.Places.{IsHome, made_in, places_with}

@@ -1,12 +1,9 @@
 -- What a turn needs of a world's data, and of whom they are: they are those of a run that goes on, in which nobody is held and no
 -- controller is due; and the seats and the bound on cycles are those of the run's setting.
 use Rattle.std.specs.Prelude.{◌≡◌, ℕ, None, List}
-use Rattle.ctl_face.specs.Ctl.{Ctl}
-use Rattle.protocol_runs.specs.IsSetting.{IsSetting}
-use Rattle.protocol_runs.specs.Meaning.{IsMeaning, Meaning}
-use Rattle.protocol_runs.specs.Setting.{Setting}
-use Rattle.sequencer.specs.Drive.{Drive}
-use Rattle.sequencer.specs.Seats.{Seat}
+use Rattle.ctl_face.specs.Prelude.{Ctl}
+use Rattle.protocol_runs.specs.Prelude.{IsSetting, IsMeaning, Meaning, Setting}
+use Rattle.sequencer.specs.Prelude.{Drive, Seat}
 use Rattle.world_state.specs.Places.{made_in}
 use Rattle.world_state.specs.declared.seat.SeatAt.{SeatAt}
 use Rattle.world_state.specs.Seated.{setups_in}

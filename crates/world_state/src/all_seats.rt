@@ -1,13 +1,11 @@
 //! How the sequencers of all seats move out of their stores, and back.
 ghost use Rattle.std.specs.Prelude.{◌≡◌, ℕ, List, IfOk, OnErr, OnOk, length, reverse, vec_len};
 ghost use Rattle.std.specs.List.{All, AllPairs};
-ghost use Rattle.ctl_face.specs.Ctl.{Ctl};
-ghost use Rattle.protocol_runs.specs.Turn.{seats_in};
-ghost use Rattle.sequencer.specs.OwnedSeats.{seats_of};
-ghost use Rattle.sequencer.specs.Seats.{Seat as SeatRecord};
-ghost use Rattle.world_state.specs.Arrivals.{HasRoom};
-ghost use Rattle.world_state.specs.Places.{made_in, places_with};
-ghost use Rattle.world_state.specs.Seated.{AreApart, IsHomeIn, controllers_in, seated, setups_in};
+ghost use Rattle.ctl_face.specs.Prelude.{Ctl};
+ghost use Rattle.protocol_runs.specs.Prelude.{seats_in};
+ghost use Rattle.sequencer.specs.Prelude.{seats_of, Seat};
+ghost use Rattle.world_state.specs.Prelude.{HasRoom, made_in, places_with, IsHomeIn, controllers_in, seated, setups_in};
+ghost use Rattle.world_state.specs.Seated.{AreApart};
 
 use crate::Place;
 use crate::seat::SeatAt;
@@ -27,7 +25,7 @@ pub fn take_seats(
     requires apart { AllPairs AreApart seats.now }
     ensures seats { IfOk result (λ out. (held : Ctl) → seats_of out.items
         ≡ seats_in (setups_in seats.now) (controllers_in (places_with held places.old.items))) }
-    ensures rest { OnOk result ((held : Ctl) (put : List SeatRecord) → length put ≡ length seats.now
+    ensures rest { OnOk result ((held : Ctl) (put : List Seat) → length put ≡ length seats.now
         → seated seats.now (places_with held places.new.items) put
         ≡ seated seats.now (places_with held places.old.items) put) }
     ensures made { made_in places.new.items ≡ made_in places.old.items }

@@ -1,7 +1,7 @@
 //! What has happened in a run so far.
 ghost use Rattle.std.specs.Prelude.{◌≡◌, ◌≤◌, ◌<◌, ◌+◌, [], ◌∷◌, ◌++◌, IsSomeAnd, OnOk, length};
 ghost use Rattle.std.specs.Option.{ForSome};
-ghost use Rattle.protocol_runs.specs.Account.{consumed_in, consumed_numbers, sent_in, sent_numbers};
+ghost use Rattle.protocol_runs.specs.Prelude.{consumed_in, consumed_numbers, sent_in, sent_numbers};
 
 use ruby_value::{NoMemory, Seq};
 use run_journal::{Entry, Event};

@@ -1,7 +1,7 @@
 //! The driver's part of a turn.
 ghost use Rattle.std.specs.Prelude.{◌≡◌, ℕ, [], IfOk, OnErr};
 ghost use Rattle.std.specs.List.{All};
-ghost use Rattle.sequencer.specs.Drive.{Drive};
+ghost use Rattle.sequencer.specs.Prelude.{Drive};
 ghost use Rattle.world_state.specs.Arrivals.{HasRoom};
 ghost use Rattle.world_state.specs.Steps.{IsSame};
 ghost use Rattle.world_state.specs.Driving.{CanAct, CanCome, CanEnd, HasRoomToAct, IsActed, IsBack, IsReadyToAct};
@@ -9,10 +9,10 @@ ghost use Rattle.world_state.specs.Requests.{HasRoomFor};
 ghost use Rattle.world_state.specs.Turned.{IsDriven, numbers_of, requests_in};
 
 use crate::all_seats::put_seats;
-use crate::ready::{Ready, prepare};
+use crate::fires::{Ready, prepare};
+use crate::laws::{drives_are_lawful, places_stay_home, requests_can_arrive, seats_are_ready};
 use crate::requests::Requests;
 use crate::seat::SeatAt;
-use crate::turn_laws::{drives_are_lawful, places_stay_home, requests_can_arrive, seats_are_ready};
 use crate::{State, deliver};
 use ruby_value::{Finding, MsgNo, NoMemory, Seq};
 use sequencer::{Driver, OwnedSeats};

@@ -1,46 +1,35 @@
-// What calls do to a world's data is a step of the run, and the data stay those of the run. These functions do nothing: their
-// contracts are the laws.
-ghost use Rattle.std.specs.Prelude.{◌≡◌, ◌≤◌, ◌<◌, ℕ, true, false, List, None, Some, length, map, position, slice_get};
-ghost use Rattle.std.specs.List.{list_any};
-ghost use Rattle.run_journal.specs.declared.entry.End.{End as EndRecord};
+// What calls do to a world's data, a turn among them, is a step of the run, and the data stay those of the run. These functions do nothing:
+// their contracts are the laws.
+ghost use Rattle.std.specs.Prelude.{◌≡◌, ◌≤◌, ◌<◌, ℕ, true, false, List, None, Some, length, map, position, slice_get, IfSome, Option};
+ghost use Rattle.std.specs.List.{list_any, All, AllPairs};
+ghost use Rattle.run_journal.specs.declared.entry.End.{End};
 ghost use Rattle.run_journal.specs.declared.entry.Entry.TheVariants as entry;
-ghost use Rattle.run_journal.specs.declared.entry.FireNote.{FireNote as NoteRecord};
+ghost use Rattle.run_journal.specs.declared.entry.FireNote.{FireNote};
 ghost use Rattle.run_journal.specs.declared.event.Event.TheVariants as event;
-ghost use Rattle.ruby_value.specs.declared.message.Delivery.{Delivery as DeliveryRecord};
-ghost use Rattle.ruby_value.specs.declared.message.Message.{Message as MessageRecord};
-ghost use Rattle.protocol_runs.specs.Change.{Ends};
-ghost use Rattle.protocol_runs.specs.RunRules.{Acts, Fired};
-ghost use Rattle.protocol_runs.specs.Step.{fired_entry};
-ghost use Rattle.protocol_runs.specs.World.{is_free as is_free_in, is_held as is_held_in};
-ghost use Rattle.ctl_face.specs.Between.{with_one_fired};
-ghost use Rattle.ctl_face.specs.Ctl.{Ctl};
-ghost use Rattle.ctl_store.specs.Kept.{ctl_of};
-ghost use Rattle.protocol_runs.specs.IsSetting.{IsSetting};
-ghost use Rattle.protocol_runs.specs.Meaning.{IsMeaning, Meaning};
-ghost use Rattle.protocol_runs.specs.Rules.{opening_of, rules};
-ghost use Rattle.protocol_runs.specs.Setting.{Setting};
-ghost use Rattle.sequencer.specs.Drive.{Drive};
-ghost use Rattle.sequencer.specs.Seats.{Seat};
-ghost use Rattle.world_state.specs.Cycle.{has_stopped};
-ghost use Rattle.world_state.specs.Arrivals.{CanArrive, delivered};
-ghost use Rattle.world_state.specs.declared.place.Kept.{Kept as KeptRecord};
-ghost use Rattle.world_state.specs.declared.place.Place.{Place as PlaceRecord};
-ghost use Rattle.world_state.specs.Places.{IsEndedAt, IsPutBack, IsTakenOut, is_free, is_held, made_for, made_in, places_with};
-ghost use Rattle.world_state.specs.Closed.{IsClosed, IsRested};
-ghost use Rattle.world_state.specs.Opened.{IsOpening};
-ghost use Rattle.world_state.specs.States.{IsHeldBy, IsKept, IsMadeFor, IsNobody, home_place};
-ghost use Rattle.world_state.specs.Steps.{IsStep, SameCycle, Writes};
-ghost use Rattle.world_state.specs.declared.state.State.{State as StateRecord};
+ghost use Rattle.ruby_value.specs.declared.message.Delivery.{Delivery};
+ghost use Rattle.ruby_value.specs.declared.message.Message.{Message};
+ghost use Rattle.protocol_runs.specs.Prelude.{Ends, Acts, Fired, fired_entry, is_free as is_free_in, is_held as is_held_in, IsSetting, IsMeaning, Meaning, opening_of, rules, Setting, Place as RunPlace, seats_in};
+ghost use Rattle.ctl_face.specs.Prelude.{with_one_fired, Ctl};
+ghost use Rattle.ctl_store.specs.Prelude.{ctl_of};
+ghost use Rattle.sequencer.specs.Prelude.{Drive, Seat, after_drive};
+ghost use Rattle.world_state.specs.Prelude.{has_stopped, CanArrive, delivered, IsEndedAt, IsPutBack, IsTakenOut, is_free, is_held, made_for, made_in, places_with, IsClosed, IsRested, IsOpening, IsHeldBy, IsKept, IsMadeFor, IsNobody, home_place, IsStep, SameCycle, Writes, HasLine, IsHome, controllers_in, seated, setups_in, IsActIn, IsReady, IsTurned, requests_in, seated_in, seating_in, CanTurn, IsOfRun};
+ghost use Rattle.world_state.specs.declared.place.Kept.{Kept};
+ghost use Rattle.world_state.specs.declared.place.Place.{Place, Place as PlaceRecord};
+ghost use Rattle.world_state.specs.declared.state.State.{State};
+ghost use Rattle.run_journal.specs.declared.verdict.Verdict.{Verdict};
+ghost use Rattle.ruby_value.specs.Prelude.{IsRequest};
+ghost use Rattle.world_state.specs.declared.seat.SeatAt.{SeatAt};
+ghost use Rattle.world_state.specs.Seated.{AreApart};
 
 use sequencer::Driver;
 
 /// A run begins with the controllers of its setting, each in a store that was made for it.
 pub fn runs_open<D>()
     ensures { (p : Meaning) (drive : D → List Seat → ℕ → Drive D) (s : Setting D) (held : Ctl)
-        (kept : List KeptRecord) (st : StateRecord D)
+        (kept : List Kept) (st : State D)
         → IsOpening kept s.driver st
-        → map (λ (k : KeptRecord). ctl_of k.store) kept ≡ opening_of p drive s
-        → ((c : ℕ) (k : KeptRecord) → slice_get kept c ≡ Some k → IsMadeFor s c (made_for k))
+        → map (λ (k : Kept). ctl_of k.store) kept ≡ opening_of p drive s
+        → ((c : ℕ) (k : Kept) → slice_get kept c ≡ Some k → IsMadeFor s c (made_for k))
         → IsKept p drive s held st × IsNobody (made_in st.places.items) }
 {}
 
@@ -48,23 +37,23 @@ pub fn runs_open<D>()
 /// is held or none is free, no place is.
 pub fn reads_are_of_the_world<D>()
     ensures free { (p : Meaning) (drive : D → List Seat → ℕ → Drive D) (s : Setting D) (held : Ctl)
-        (now : ℕ) (places : List PlaceRecord)
+        (now : ℕ) (places : List Place)
         → position (is_free_in (rules p drive s) now) (places_with held places)
         ≡ position (is_free now) places }
-    ensures held { (held : Ctl) (places : List PlaceRecord)
+    ensures held { (held : Ctl) (places : List Place)
         → list_any is_held_in (places_with held places)
-        ≡ list_any (λ (k : PlaceRecord). is_held k.keeper) places }
-    ensures nobody { (places : List PlaceRecord)
-        → list_any (λ (k : PlaceRecord). is_held k.keeper) places ≡ false
+        ≡ list_any (λ (k : Place). is_held k.keeper) places }
+    ensures nobody { (places : List Place)
+        → list_any (λ (k : Place). is_held k.keeper) places ≡ false
         → IsNobody (made_in places) }
-    ensures rested { (now : ℕ) (places : List PlaceRecord) → position (is_free now) places ≡ None
-        → (c : ℕ) (k : PlaceRecord) → slice_get places c ≡ Some k → is_free now k ≡ false }
+    ensures rested { (now : ℕ) (places : List Place) → position (is_free now) places ≡ None
+        → (c : ℕ) (k : Place) → slice_get places c ≡ Some k → is_free now k ≡ false }
 {}
 
 /// A worker takes a controller that is due, where nobody is held and no verdict stands.
 pub fn takes_are_steps<D>()
     ensures { (p : Meaning) (drive : D → List Seat → ℕ → Drive D) (s : Setting D) (held : Ctl)
-        (old new : StateRecord D) (worker c : ℕ) (kept : KeptRecord)
+        (old new : State D) (worker c : ℕ) (kept : Kept)
         → IsKept p drive s held old → IsNobody (made_in old.places.items) → old.verdict ≡ None
         → (t : IsTakenOut worker c kept old.places.items new.places.items)
         → is_free old.now (home_place kept t.finished) ≡ true
@@ -77,7 +66,7 @@ pub fn takes_are_steps<D>()
 /// A worker gives back a controller that it holds, with the store that was made for it.
 pub fn releases_are_steps<D>()
     ensures { (p : Meaning) (drive : D → List Seat → ℕ → Drive D) (s : Setting D)
-        (old new : StateRecord D) (worker c : ℕ) (kept : KeptRecord)
+        (old new : State D) (worker c : ℕ) (kept : Kept)
         → IsKept p drive s (ctl_of kept.store) old → old.verdict ≡ None
         → IsHeldBy worker c old.places.items → IsMadeFor s c (made_for kept)
         → IsPutBack c kept old.places.items new.places.items
@@ -89,7 +78,7 @@ pub fn releases_are_steps<D>()
 /// The wake-up of a controller that a worker holds ends as its scan has it.
 pub fn ends_are_steps<D>()
     ensures { (p : Meaning) (drive : D → List Seat → ℕ → Drive D) (s : Setting D)
-        (x after : Ctl) (old new : StateRecord D) (worker c : ℕ) (kept : KeptRecord) (e : EndRecord)
+        (x after : Ctl) (old new : State D) (worker c : ℕ) (kept : Kept) (e : End)
         → IsKept p drive s x old → old.verdict ≡ None
         → IsHeldBy worker c old.places.items → IsMadeFor s c (made_for kept)
         → Ends (rules p drive s) c old.now x after e
@@ -103,8 +92,8 @@ pub fn ends_are_steps<D>()
 /// A transition of a controller that a worker holds fires as its scan has it, and its copies come to their receivers.
 pub fn fires_are_steps<D>()
     ensures { (p : Meaning) (drive : D → List Seat → ℕ → Drive D) (s : Setting D)
-        (x after : Ctl) (old new : StateRecord D) (worker c : ℕ)
-        (note : NoteRecord) (acts : Acts) (copies : List (DeliveryRecord MessageRecord))
+        (x after : Ctl) (old new : State D) (worker c : ℕ)
+        (note : FireNote) (acts : Acts) (copies : List (Delivery Message))
         → IsKept p drive s x old → old.verdict ≡ None → IsHeldBy worker c old.places.items
         → ((rules p drive s).scan c x old.now).outcome ≡ Fired note acts copies after
         → ((held : Ctl) → places_with held new.places.items
@@ -120,7 +109,7 @@ pub fn fires_are_steps<D>()
 /// A turn at which no controller is held or due, and some have stopped, ends the run with the least-numbered one.
 pub fn closes_are_steps<D>()
     ensures { (p : Meaning) (drive : D → List Seat → ℕ → Drive D) (s : Setting D) (held : Ctl)
-        (old new : StateRecord D) (worker c : ℕ)
+        (old new : State D) (worker c : ℕ)
         → IsKept p drive s held old → old.verdict ≡ None
         → IsNobody (made_in old.places.items) → IsRested old
         → position has_stopped old.places.items ≡ Some c
@@ -131,10 +120,72 @@ pub fn closes_are_steps<D>()
 /// The copies of a transition that fires can come to their receivers, and are no more than what it sent; and a controller that fires
 /// has fired fewer transitions in this cycle than it may.
 pub fn copies_can_arrive<D: Driver>()
-    ensures { (p : Meaning) (s : Setting D) (x after : Ctl) (st : StateRecord D) (worker c : ℕ)
-        (note : NoteRecord) (acts : Acts) (copies : List (DeliveryRecord MessageRecord))
+    ensures { (p : Meaning) (s : Setting D) (x after : Ctl) (st : State D) (worker c : ℕ)
+        (note : FireNote) (acts : Acts) (copies : List (Delivery Message))
         → IsMeaning p → IsSetting D.least s
         → IsKept p D.drive s x st → IsHeldBy worker c st.places.items
         → ((rules p D.drive s).scan c x st.now).outcome ≡ Fired note acts copies after
         → CanArrive st.places.items copies × (length copies ≤ length acts.sent) × (x.fired < s.limit) }
+{}
+
+/// In the data of a run that goes on and in which nobody is held, the cycle is one of a run, and the seats are at controllers that are
+/// there and fit the driver.
+pub fn seats_are_ready<D: Driver>()
+    ensures { (cycles : ℕ) (seats : List SeatAt) (old : State D)
+        → CanTurn D.least D.drive cycles seats old → IsReady seats D.least old }
+{}
+
+/// Where what stores were made for stays, a controller that nobody held is still held by nobody.
+pub fn places_stay_home()
+    ensures { (old new : List PlaceRecord) → made_in new ≡ made_in old → All IsHome old
+        → All IsHome new }
+{}
+
+/// Sequencers that are put back as they were taken leave the places as they were.
+pub fn seats_are_put_back()
+    ensures { (seats : List SeatAt) (places : List (RunPlace Ctl)) → AllPairs AreApart seats
+        → seated seats places (seats_in (setups_in seats) (controllers_in places)) ≡ places }
+{}
+
+/// What a driver does at its turn: there are as many seats as before; the requests that stand there as issued are those of the turn; they
+/// are no more than it needs, each at a seat and asking for bytes of one line, and there is one message of each; and a finding names
+/// a line.
+pub fn drives_are_lawful<D: Driver>()
+    ensures seats { (seats : List SeatAt) (held : Ctl) (old : State D) (d : Drive D)
+        → length (after_drive (seating_in seats held old) d).seats ≡ length seats }
+    ensures kept { (seats : List SeatAt) (held : Ctl) (old : State D) (d : Drive D)
+        → (after_drive (seating_in seats held old) d).issued ≡ d.issued }
+    ensures issued { (cycles : ℕ) (seats : List SeatAt) (old : State D) (d : Drive D)
+        → CanTurn D.least D.drive cycles seats old → IsActIn D.drive seats old d
+        → All (λ i. (i.seat < length seats) × IsRequest i.asked) d.issued }
+    ensures few { (cycles : ℕ) (seats : List SeatAt) (old : State D) (d : Drive D)
+        → CanTurn D.least D.drive cycles seats old → IsActIn D.drive seats old d
+        → length d.issued ≤ D.needs old.driver old.now }
+    ensures finding { (cycles : ℕ) (seats : List SeatAt) (old : State D) (d : Drive D)
+        → CanTurn D.least D.drive cycles seats old → IsActIn D.drive seats old d
+        → IfSome d.finding HasLine }
+    ensures messages { (cycles : ℕ) (seats : List SeatAt) (old : State D) (d : Drive D)
+        → CanTurn D.least D.drive cycles seats old → IsActIn D.drive seats old d
+        → length (requests_in seats old d) ≡ length d.issued }
+{}
+
+/// The messages of the requests that the driver issues can come to their receivers, where its seats are as it has left them.
+pub fn requests_can_arrive<D: Driver>()
+    ensures { (cycles : ℕ) (seats : List SeatAt) (old : State D) (d : Drive D)
+        (places : List PlaceRecord)
+        → CanTurn D.least D.drive cycles seats old → IsActIn D.drive seats old d
+        → ((held : Ctl) → places_with held places ≡ seated_in seats held old d)
+        → made_in places ≡ made_in old.places.items
+        → CanArrive places (requests_in seats old d) }
+{}
+
+/// A turn at which no controller has stopped, and the driver acts, is a step of the run.
+pub fn turned_data_are_steps<D: Driver>()
+    ensures { (p : Meaning) (s : Setting D) (held : Ctl) (cycles worker : ℕ)
+        (seats : List SeatAt) (verdict : Option Verdict) (old new : State D)
+        → CanTurn D.least D.drive cycles seats old
+        → IsOfRun D.least D.drive cycles seats p s held old
+        → position has_stopped old.places.items ≡ None
+        → IsTurned D.drive cycles seats worker verdict old new
+        → IsStep p D.drive s held old (event.Turn worker) held new × IsKept p D.drive s held new }
 {}

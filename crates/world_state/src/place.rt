@@ -1,18 +1,20 @@
-//! A controller's place in a world.
-ghost use Rattle.std.specs.Prelude.{◌≡◌, ◌≢◌, ◌<◌, ◌+◌, ◌^◌, ℕ, OnOk};
-ghost use Rattle.ruby_value.specs.Ascending.{has_mark as has_mark_of};
-ghost use Rattle.ruby_value.specs.declared.message.Message.{Message as MessageRecord};
-ghost use Rattle.protocol_runs.specs.Verdict.{least_above};
-ghost use Rattle.ctl_face.specs.Between.{with_arrival};
-ghost use Rattle.ctl_face.specs.Ctl.{Ctl};
-ghost use Rattle.ctl_store.specs.Kept.{ctl_of};
+//! A controller's place in a world, and what happens to places.
+ghost use Rattle.std.specs.Prelude.{◌≡◌, ◌≢◌, ◌<◌, ◌+◌, ◌^◌, ℕ, OnOk, true, length, map, slice_set};
+ghost use Rattle.std.specs.List.{All};
+ghost use Rattle.ruby_value.specs.Prelude.{has_mark};
+ghost use Rattle.ruby_value.specs.declared.message.Message.{Message};
+ghost use Rattle.protocol_runs.specs.Prelude.{least_above};
+ghost use Rattle.ctl_face.specs.Prelude.{with_arrival, Ctl};
+ghost use Rattle.ctl_store.specs.Prelude.{ctl_of};
 ghost use Rattle.world_state.specs.Arrivals.{HasRoom, Takes};
-ghost use Rattle.world_state.specs.Cycle.{begun_at, has_stopped as has_stopped_at};
-ghost use Rattle.world_state.specs.Places.{IsHome, is_free as is_free_by, made_by, marks_by, place_with};
+ghost use Rattle.world_state.specs.Cycle.{begun_at, has_stopped};
+ghost use Rattle.world_state.specs.Places.{IsHome, is_free, made_by, marks_by, place_with, IsHomeAt, IsPutBack, IsTakenOut, made_in, places_with};
+ghost use Rattle.world_state.specs.declared.place.Keeper.TheVariants as keeper;
 
 use ctl_face::Routes;
 use ctl_store::Store;
 use ruby_value::{Message, NoMemory};
+use std::mem;
 
 /// A controller that nobody holds: its store, and the routes that it goes by.
 #[derive(Drop)]
@@ -38,7 +40,7 @@ pub struct Place {
 
 // Whether the controller of a store must wake at a cycle.
 fn has_mark(store: &Store, cycle: u64) -> bool
-    ensures { result ≡ has_mark_of (ctl_of store.now).mail.marks cycle }
+    ensures { result ≡ has_mark (ctl_of store.now).mail.marks cycle }
 {
     match store.next_mark(cycle) {
         Some(mark) => mark == cycle,
@@ -57,7 +59,7 @@ fn next_above(store: &Store, now: u64) -> Option<u64>
 impl Place {
     /// Whether the controller is due at a cycle, and nobody holds it.
     pub(crate) fn is_free(&self, now: u64) -> bool
-        ensures { result ≡ is_free_by now self.now }
+        ensures { result ≡ is_free now self.now }
     {
         match &self.keeper {
             Keeper::World(kept) => has_mark(&kept.store, now) && !self.finished,
@@ -78,7 +80,7 @@ impl Place {
 
     /// Whether the controller has stopped, where nobody holds it.
     pub(crate) fn has_stopped(&self) -> bool
-        ensures { result ≡ has_stopped_at self.now }
+        ensures { result ≡ has_stopped self.now }
     {
         match &self.keeper {
             Keeper::World(kept) => kept.store.stopped(),
@@ -106,7 +108,7 @@ impl Place {
             ≡ (let p = place_with held self.old in record p { controller = with_arrival p.controller m }) }
         ensures made { made_by self.new.keeper ≡ made_by self.old.keeper }
         ensures room { (more : ℕ) → HasRoom (more + 1) self.old → HasRoom more self.new }
-        ensures others { (n : MessageRecord) → n.number ≢ m.number → Takes n self.old
+        ensures others { (n : Message) → n.number ≢ m.number → Takes n self.old
             → Takes n self.new }
     {
         match &mut self.keeper {
@@ -128,5 +130,51 @@ impl Place {
             Keeper::Worker(_) => unreachable!(),
         }
         self.finished = false;
+    }
+}
+
+/// The worker takes a controller that nobody holds out of its place. It takes no memory.
+pub fn take_out(places: &mut Vec<Place>, worker: u32, c: u32) -> Kept
+    requires { IsHomeAt places.old.items c }
+    ensures { IsTakenOut worker c result places.old.items places.new.items }
+{
+    let place = &mut places[c as usize];
+    match mem::replace(&mut place.keeper, Keeper::Worker(worker)) {
+        Keeper::World(kept) => kept,
+        Keeper::Worker(_) => unreachable!(),
+    }
+}
+
+/// A controller comes back to its place, and its wake-up goes on. It takes no memory.
+pub fn put_back(places: &mut Vec<Place>, c: u32, kept: Kept)
+    requires { c < length places.old.items }
+    ensures { IsPutBack c kept places.old.items places.new.items }
+{
+    let place = &mut places[c as usize];
+    place.keeper = Keeper::World(kept);
+}
+
+/// A controller comes back to its place, and its wake-up of this cycle has ended. It takes no memory.
+pub fn end_at(places: &mut Vec<Place>, c: u32, kept: Kept)
+    requires { c < length places.old.items }
+    ensures { places.new.items
+        ≡ slice_set places.old.items c (record { keeper = keeper.World kept; finished = true }) }
+{
+    places[c as usize] = Place {
+        keeper: Keeper::World(kept),
+        finished: true,
+    };
+}
+
+/// A cycle begins for all controllers, of which none is held. It takes no memory.
+pub fn begin_all(places: &mut [Place], now: u64)
+    requires { All IsHome places.old }
+    ensures places { (held : Ctl) → places_with held places.new
+        ≡ map (begun_at now) (places_with held places.old) }
+    ensures made { made_in places.new ≡ made_in places.old }
+    ensures home { All IsHome places.new }
+{
+    for place in places.iter_mut() {
+        place.begin(now);
     }
 }

@@ -2,9 +2,8 @@
 ghost use Rattle.std.specs.Prelude.{◌≡◌, ◌<◌, ◌^◌, false, length, position, slice_get};
 ghost use Rattle.std.specs.List.{list_any};
 ghost use Rattle.std.specs.Option.{option_map_or};
-ghost use Rattle.protocol_runs.specs.Verdict.{above, earlier, later};
-ghost use Rattle.world_state.specs.Cycle.{has_stopped, next_of};
-ghost use Rattle.world_state.specs.Places.{is_free, is_held};
+ghost use Rattle.protocol_runs.specs.Prelude.{above, earlier, later};
+ghost use Rattle.world_state.specs.Prelude.{has_stopped, next_of, is_free, is_held};
 
 use crate::place::{Keeper, Place};
 

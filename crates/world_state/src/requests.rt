@@ -1,14 +1,19 @@
-//! The messages of the requests that a driver issues.
-ghost use Rattle.std.specs.Prelude.{◌≡◌, ◌<◌, ◌≤◌, ◌+◌, ◌++◌, ◌^◌, ℕ, [], IfOk, length, slice_get};
+//! The messages of the requests that a driver issues, and how messages come to controllers.
+ghost use Rattle.std.specs.Prelude.{◌≡◌, ◌<◌, ◌≤◌, ◌+◌, ◌++◌, ◌^◌, ℕ, [], IfOk, length, slice_get, ◌∷◌, List, OnOk, reverse, vec_len};
 ghost use Rattle.std.specs.List.{All};
-ghost use Rattle.ruby_value.specs.Requests.{IsRequest};
-ghost use Rattle.protocol_runs.specs.Requests.{member_of as member_of_request, request_at, request_fields as fields_of_request, request_messages};
-ghost use Rattle.sequencer.specs.declared.issued.Issued.{Issued as IssuedRecord};
+ghost use Rattle.ruby_value.specs.Prelude.{IsRequest};
+ghost use Rattle.protocol_runs.specs.Prelude.{member_of, request_at, request_fields, request_messages};
+ghost use Rattle.sequencer.specs.declared.issued.Issued.{Issued};
 ghost use Rattle.world_state.specs.Seated.{setups_in};
 ghost use Rattle.world_state.specs.Requests.{HasRoomFor, IsFieldRoom};
 ghost use Rattle.world_state.specs.Turned.{numbers_of};
+ghost use Rattle.ruby_value.specs.declared.message.Delivery.{Delivery};
+ghost use Rattle.ruby_value.specs.declared.message.Message.{Message};
+ghost use Rattle.ctl_face.specs.Prelude.{Ctl};
+ghost use Rattle.world_state.specs.Arrivals.{CanArrive, HasRoom, TakesAt, delivered, delivered_one};
+ghost use Rattle.world_state.specs.Places.{made_in, places_with};
 
-use crate::SeatAt;
+use crate::{Place, SeatAt};
 use ruby_value::{Ask, Asked, Delivery, Fields, Message, MsgNo, NoMemory, Seq, Value};
 use sequencer::Issued;
 use std::alloc::Global;
@@ -22,7 +27,7 @@ pub(crate) struct Requests {
 }
 
 fn member_of(kind: Ask) -> u16
-    ensures { result ≡ member_of_request kind }
+    ensures { result ≡ member_of kind }
 {
     match kind {
         Ask::Load => 0,
@@ -35,7 +40,7 @@ fn member_of(kind: Ask) -> u16
 fn request_fields(room: Vec<Value>, a: Asked) -> Fields
     requires room { IsFieldRoom room }
     requires request { IsRequest a }
-    ensures { result ≡ fields_of_request a }
+    ensures { result ≡ request_fields a }
 {
     let mut fields = room;
     let line = a.line * 64;
@@ -106,7 +111,7 @@ impl Requests {
     pub(crate) fn fill(&mut self, seats: &[SeatAt], first: MsgNo, now: u64, issued: &[Issued])
         requires none { self.old.messages.items ≡ [] }
         requires room { HasRoomFor (length issued.now) self.old }
-        requires requests { All (λ (i : IssuedRecord). IsRequest i.asked) issued.now }
+        requires requests { All (λ (i : Issued). IsRequest i.asked) issued.now }
         requires now { now < 2 ^ 63 }
         requires count { first.count + length issued.now < 2 ^ 64 }
         ensures messages { self.new.messages.items
@@ -131,4 +136,60 @@ impl Requests {
     {
         (Seq::of(self.messages), Seq::of(self.numbers))
     }
+}
+
+/// Makes room for so many messages at each controller that nobody holds, or answers that there is no memory for them.
+pub fn room_for_all(places: &mut [Place], messages: u32) -> Result<(), NoMemory>
+    ensures same { (held : Ctl) → places_with held places.new ≡ places_with held places.old }
+    ensures made { made_in places.new ≡ made_in places.old }
+    ensures ok { OnOk result (All (HasRoom messages) places.new) }
+{
+    for place in places.iter_mut() {
+        place.room(messages)?;
+    }
+    Ok(())
+}
+
+// A message comes to its receiver.
+fn deliver_one(places: &mut Vec<Place>, d: Delivery<Message>)
+    requires takes { TakesAt places.old.items d }
+    requires room { All (HasRoom 1) places.old.items }
+    ensures places { (held : Ctl) → places_with held places.new.items
+        ≡ delivered_one (places_with held places.old.items) d }
+    ensures made { made_in places.new.items ≡ made_in places.old.items }
+    ensures can { (ds : List (Delivery Message)) → CanArrive places.old.items (d ∷ ds)
+        → CanArrive places.new.items ds }
+    ensures room { (n : ℕ) → All (HasRoom (n + 1)) places.old.items
+        → All (HasRoom n) places.new.items }
+{
+    let Delivery { receiver, message } = d;
+    let place = &mut places[receiver as usize];
+    place.arrive(message);
+}
+
+// Messages come to their receivers, from the last one on.
+fn deliver_all(places: &mut Vec<Place>, mut newest_first: Vec<Delivery<Message>>)
+    requires can { CanArrive places.old.items (reverse newest_first.items) }
+    requires room { All (HasRoom (vec_len newest_first)) places.old.items }
+    ensures places { (held : Ctl) → places_with held places.new.items
+        ≡ delivered (places_with held places.old.items) (reverse newest_first.items) }
+    ensures made { made_in places.new.items ≡ made_in places.old.items }
+{
+    while let Some(d) = newest_first.pop() {
+        deliver_one(places, d);
+    }
+}
+
+/// The messages come to their receivers, one after another. It takes no memory.
+#[tactic(auto, using(crate::proofs::ArrivingAt::twice_reversed))]
+pub fn deliver(places: &mut Vec<Place>, deliveries: Seq<Delivery<Message>>)
+    requires can { CanArrive places.old.items deliveries }
+    requires room { All (HasRoom (length deliveries)) places.old.items }
+    ensures places { (held : Ctl) → places_with held places.new.items
+        ≡ delivered (places_with held places.old.items) deliveries }
+    ensures made { made_in places.new.items ≡ made_in places.old.items }
+{
+    let mut newest_first = deliveries.into_vec();
+    newest_first.reverse();
+    deliver_all(places, newest_first);
 }

@@ -1,15 +1,17 @@
-//! A world's data, and how a worker takes a controller and gives it back.
+//! A world's data: as a run begins, how a worker takes a controller and gives it back, and how the run ends with one that has stopped.
 ghost use Rattle.std.specs.Prelude.{◌≡◌, ◌≤◌, ◌<◌, ◌∷◌, [], ◌++◌, IfOk, OnErr, OnOk, None, length};
 ghost use Rattle.std.specs.List.{All};
 ghost use Rattle.run_journal.specs.declared.event.Event.TheVariants as event;
 ghost use Rattle.world_state.specs.Arrivals.{HasRoom};
 ghost use Rattle.world_state.specs.Places.{IsHomeAt, IsPutBack, IsTakenOut};
 ghost use Rattle.world_state.specs.Steps.{IsSame, SameCycle, Writes};
+ghost use Rattle.world_state.specs.Opened.{IsOpening};
+ghost use Rattle.world_state.specs.Closed.{IsClosed};
 
-use crate::book::Book;
-use crate::{Kept, Place, put_back, room_for_all, take_out};
-use ruby_value::NoMemory;
-use run_journal::{Event, Verdict};
+use crate::{Book, Keeper, Kept, Place, put_back, room_for_all, take_out};
+use ruby_value::{NoMemory, Seq};
+use run_journal::{Entry, Event, Verdict};
+use std::alloc::Global;
 
 /// The data of a world. The controllers stand by their numbers; one that a worker holds is out of its place. `issued` is how many
 /// requests the driver has issued, and `next` the next cycle at which it must act.
@@ -70,5 +72,54 @@ impl<D> State<D> {
             worker,
             controller: c,
         });
+    }
+}
+
+impl<D> State<D> {
+    /// The data of a world as a run begins, with these controllers in the order of their numbers, and this driver.
+    pub fn open(alloc: Global, kept: Vec<Kept>, driver: D) -> Result<State<D>, NoMemory>
+    where
+        D: Drop,
+        ensures { IfOk result (IsOpening kept.items driver) }
+    {
+        let mut places = Vec::new(alloc);
+        for k in kept {
+            places.push(Place {
+                keeper: Keeper::World(k),
+                finished: false,
+            })?;
+        }
+        Ok(State {
+            now: 0,
+            places,
+            driver,
+            issued: 0,
+            next: None,
+            verdict: None,
+            book: Book::new(alloc),
+        })
+    }
+}
+
+impl<D> State<D> {
+    /// A turn ends the run with a controller that has stopped. The driver doesn't act.
+    pub fn close(&mut self, alloc: Global, worker: u32, controller: u32) -> Result<(), NoMemory>
+        ensures ok { OnOk result (IsClosed worker controller self.old self.new) }
+        ensures err { OnErr result (IsSame self.old self.new) }
+    {
+        self.book.reserve(1)?;
+        let verdict = Some(Verdict::Stop {
+            cycle: self.now,
+            controller,
+        });
+        let entry = Entry::Turned {
+            cycle: self.now,
+            issued: Seq::new(alloc),
+            finding: None,
+            verdict,
+        };
+        self.verdict = verdict;
+        self.book.write(Event::Turn { worker }, entry);
+        Ok(())
     }
 }

@@ -1,5 +1,5 @@
 // The requests that are outstanding.
-ghost use Rattle.ruby_value.specs.Requests.{IsRequest};
+ghost use Rattle.ruby_value.specs.Prelude.{IsRequest};
 
 use ruby_value::{Ask, Asked};
 

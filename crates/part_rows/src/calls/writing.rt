@@ -1,6 +1,6 @@
 // Makes the calls, and adds what each answers.
 ghost use Rattle.std.specs.Prelude.{IfOk, IfSome};
-ghost use Rattle.controller_rows.specs.Going.{GoesOn};
+ghost use Rattle.controller_rows.specs.Prelude.{GoesOn};
 
 use crate::calls::node::{DRIVER, KEPT_NUMBERS, ME, PARAMETERS, QUEUE, machine, routes, setting};
 use crate::calls::requests::{load, store};

@@ -1,6 +1,6 @@
 // The lines of the list of runs.
 ghost use Rattle.std.specs.Prelude.{◌≤◌, IfSome};
-ghost use Rattle.ctl_face.specs.Fits.{last_cycle};
+ghost use Rattle.ctl_face.specs.Prelude.{last_cycle};
 
 use ruby_world::RunLimits;
 

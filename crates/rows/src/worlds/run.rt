@@ -1,8 +1,8 @@
 // The run of a row.
 ghost use Rattle.std.specs.Prelude.{◌≡◌, ◌≤◌, IfOk, IfSome, length};
-ghost use Rattle.ctl_face.specs.Fits.{last_cycle};
-ghost use Rattle.controller_rows.specs.Script.{opening};
-ghost use Rattle.protocol_meaning.specs.FitsPlan.{FitsPlan};
+ghost use Rattle.ctl_face.specs.Prelude.{last_cycle};
+ghost use Rattle.controller_rows.specs.Prelude.{opening};
+ghost use Rattle.protocol_meaning.specs.Prelude.{FitsPlan};
 
 use crate::worlds::entries::write_entries;
 use crate::worlds::row::Row;

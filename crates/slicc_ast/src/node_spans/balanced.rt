@@ -1,6 +1,6 @@
 ghost use Rattle.std.specs.Prelude.{◌≡◌, ◌++◌, ◌∷◌, OnOk};
-ghost use Rattle.slicc_ast.specs.Names.{balanced_list, balanced_part};
-ghost use Rattle.slicc_ast.specs.Outline.{none, spans_in};
+ghost use Rattle.slicc_ast.specs.Names.{balanced_part};
+ghost use Rattle.slicc_ast.specs.Prelude.{balanced_list, none, spans_in};
 
 use crate::tree::{Balanced, Part, Span};
 use ruby_base::{NoMemory, Seq};

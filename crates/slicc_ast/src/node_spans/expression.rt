@@ -1,9 +1,8 @@
 //! The spans of a tree's nodes, in the order of the text.
 ghost use Rattle.std.specs.Prelude.{◌≡◌, ◌++◌, OnOk};
 ghost use Rattle.std.specs.List.{flat_map};
-ghost use Rattle.slicc_ast.specs.Expressions.{args, expr, suffix};
-ghost use Rattle.slicc_ast.specs.Outline.{spans_of};
-ghost use Rattle.slicc_ast.specs.Spans.{operand_spans, suffix_spans};
+ghost use Rattle.slicc_ast.specs.Expressions.{suffix};
+ghost use Rattle.slicc_ast.specs.Prelude.{args, expr, spans_of, operand_spans, suffix_spans};
 
 use crate::tree::{Args, Expr, Operand, Span, Suffix};
 use ruby_base::{NoMemory, Seq};

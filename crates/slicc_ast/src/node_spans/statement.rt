@@ -1,9 +1,6 @@
 ghost use Rattle.std.specs.Prelude.{◌≡◌, ◌++◌, OnOk};
 ghost use Rattle.std.specs.List.{flat_map};
-ghost use Rattle.slicc_ast.specs.Expressions.{expr};
-ghost use Rattle.slicc_ast.specs.Outline.{none, spans_in, spans_of};
-ghost use Rattle.slicc_ast.specs.Spans.{else_if_spans};
-ghost use Rattle.slicc_ast.specs.Statements.{block_outline, if_outline, optional_expr, stmt};
+ghost use Rattle.slicc_ast.specs.Prelude.{expr, none, spans_in, spans_of, else_if_spans, block_outline, if_outline, optional_expr, stmt};
 
 use super::balanced::add_balanced;
 use super::declaration::add_pairs;

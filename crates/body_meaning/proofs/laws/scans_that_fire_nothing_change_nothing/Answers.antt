@@ -1,4 +1,4 @@
-use Rattle.body_meaning.specs.Scan.{scan}
+use Rattle.body_meaning.specs.Prelude.{scan}
 use Rattle.body_meaning.proofs.Scans.{full_leaves, idle_leaves, scan_leaves, stopped_leaves}
 use Rattle.body_meaning.proofs.laws.scans_that_fire_nothing_change_nothing.Goals as goal
 

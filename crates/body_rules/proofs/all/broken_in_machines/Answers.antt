@@ -1,10 +1,9 @@
 use Rattle.std.proofs.Common.{None, ap, ◌∙◌, sym, arith, flat_map}
 use Rattle.std.proofs.lemmas.List.{take_all}
-use Rattle.slicc_plan.specs.Declarations.{everywhere, wide_scopes}
+use Rattle.slicc_plan.specs.Prelude.{everywhere, wide_scopes, first_after, first_of}
 use Rattle.slicc_plan.proofs.Firsts.{first_after-flat_map}
-use Rattle.slicc_plan.specs.Order.{first_after, first_of}
-use Rattle.declared_types.specs.Scopes.{scope_at}
-use Rattle.body_rules.specs.InScopes.{broken_within}
+use Rattle.declared_types.specs.Prelude.{scope_at}
+use Rattle.body_rules.specs.Prelude.{broken_within}
 use Rattle.body_rules.proofs.Walks.{all_within}
 use Rattle.body_rules.proofs.all.broken_in_machines.Goals as goal
 

@@ -1,7 +1,6 @@
 use Rattle.std.proofs.Common.{◌≡◌, flat_map, take}
-use Rattle.slicc_plan.specs.Declarations.{wide_scopes}
-use Rattle.slicc_plan.specs.Order.{first_of}
-use Rattle.body_rules.specs.InScopes.{broken_within}
+use Rattle.slicc_plan.specs.Prelude.{wide_scopes, first_of}
+use Rattle.body_rules.specs.Prelude.{broken_within}
 use Rattle.body_rules.proofs.all.broken_in_machines.Given as goal
 
 abbrev pub invariant-loop-number : goal.invariant-loop-number

@@ -1,11 +1,8 @@
 use Rattle.std.proofs.Common.{◌≡◌, IfOk, List, ap, subst, sym, ◌∙◌}
 use Rattle.slicc_plan.specs.declared.broken.Broken.{Broken}
-use Rattle.slicc_plan.specs.BrokenBodies.{broken_in_machine}
-use Rattle.slicc_plan.specs.Declarations.{within}
-use Rattle.slicc_plan.specs.Order.{first_after}
-use Rattle.declared_types.specs.Lent.{scope_of}
-use Rattle.declared_types.specs.Scopes.{scope_at}
-use Rattle.body_rules.specs.InScopes.{broken_within}
+use Rattle.slicc_plan.specs.Prelude.{broken_in_machine, within, first_after}
+use Rattle.declared_types.specs.Prelude.{scope_of, scope_at}
+use Rattle.body_rules.specs.Prelude.{broken_within}
 use Rattle.body_rules.proofs.all.judge_scope.Goals as goal
 
 pub machine_in-requires : goal.machine_in-requires

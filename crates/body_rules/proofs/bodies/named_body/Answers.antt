@@ -1,7 +1,5 @@
 use Rattle.std.proofs.Common.{◌≡◌, IfOk, subst}
-use Rattle.slicc_plan.specs.Environment.{Environment}
-use Rattle.slicc_plan.specs.JudgedStatements.{body_judged}
-use Rattle.slicc_plan.specs.Order.{first_of}
+use Rattle.slicc_plan.specs.Prelude.{Environment, body_judged, first_of}
 use Rattle.body_rules.proofs.bodies.named_body.Goals as goal
 
 pub returns : goal.returns

@@ -1,9 +1,7 @@
 use Rattle.std.proofs.Common.{ap, arith, flat_map, ◌∙◌}
 use Rattle.std.proofs.lemmas.List.{take_all}
-use Rattle.slicc_plan.specs.BrokenBodies.{broken_in_declaration}
-use Rattle.slicc_plan.specs.Declarations.{declared_in}
-use Rattle.slicc_plan.specs.Order.{first_after}
-use Rattle.declared_types.specs.Lent.{declaration_of, declarations_of}
+use Rattle.slicc_plan.specs.Prelude.{broken_in_declaration, declared_in, first_after}
+use Rattle.declared_types.specs.Prelude.{declaration_of, declarations_of}
 use Rattle.body_rules.proofs.Lists.{one_step_seen}
 use Rattle.body_rules.proofs.declarations.judge_machine.Goals as goal
 

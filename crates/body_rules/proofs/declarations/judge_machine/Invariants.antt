@@ -1,7 +1,6 @@
 use Rattle.std.proofs.Common.{◌≡◌, flat_map, take}
-use Rattle.slicc_plan.specs.BrokenBodies.{broken_in_declaration}
-use Rattle.slicc_plan.specs.Order.{first_after}
-use Rattle.declared_types.specs.Lent.{declarations_of}
+use Rattle.slicc_plan.specs.Prelude.{broken_in_declaration, first_after}
+use Rattle.declared_types.specs.Prelude.{declarations_of}
 use Rattle.body_rules.proofs.declarations.judge_machine.Given as goal
 
 abbrev pub invariant-loop-d : goal.invariant-loop-d

@@ -1,11 +1,9 @@
 use Rattle.std.proofs.Common.{◌≡◌, List, ap, map, reverse, ◌∙◌}
 use Rattle.slicc_plan.specs.declared.built_in.BuiltInType.TheVariants.{Buffer}
-use Rattle.slicc_plan.specs.BrokenBodies.{environment, port_environment}
-use Rattle.slicc_plan.specs.Environment.{Environment, of_port, wrong_value_name}
-use Rattle.slicc_plan.specs.Meanings.{nothing, table_of}
-use Rattle.slicc_plan.specs.Order.{first_of}
+use Rattle.slicc_plan.specs.Prelude.{environment, port_environment, Environment, of_port, wrong_value_name, table_of, first_of}
+use Rattle.slicc_plan.specs.Meanings.{nothing}
 use Rattle.body_types.specs.declared.environment.Bound.{Bound}
-use Rattle.body_types.specs.Environments.{bound_of, environment_of}
+use Rattle.body_types.specs.Prelude.{bound_of, environment_of}
 use Rattle.body_rules.proofs.declarations.wrong_buffer.Goals as goal
 
 pub returns : goal.returns

@@ -1,9 +1,7 @@
 use Rattle.std.proofs.Common.{◌≡◌, ap, find, flat_map, ◌∙◌}
-use Rattle.slicc_plan.specs.Declarations.{declared_in, machine_declarations}
-use Rattle.slicc_plan.specs.Machines.{structure_in}
+use Rattle.slicc_plan.specs.Prelude.{declared_in, machine_declarations, structure_in}
 use Rattle.declared_types.specs.declared.lines.LineSort.TheVariants.{Directory, Entry, Tbe}
-use Rattle.declared_types.specs.Lent.{declarations_of}
-use Rattle.declared_types.specs.LineSorts.{is_of_sort}
+use Rattle.declared_types.specs.Prelude.{declarations_of, is_of_sort}
 use Rattle.body_rules.proofs.machine_in.lines_of.Goals as goal
 
 pub returns-clause-lines : goal.returns-clause-lines

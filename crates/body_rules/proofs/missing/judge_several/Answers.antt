@@ -1,6 +1,6 @@
 use Rattle.declaration_rules.proofs.Steps.{one_step}
-use Rattle.machine_table.specs.Found.{found_by}
-use Rattle.body_rules.specs.MissingBy.{missing_by}
+use Rattle.machine_table.specs.Prelude.{found_by}
+use Rattle.body_rules.specs.Prelude.{missing_by}
 use Rattle.body_rules.proofs.missing.judge_several.Goals as goal
 
 pub loop-name-preserved : goal.loop-name-preserved

@@ -1,7 +1,7 @@
 use Rattle.std.proofs.Common.{◌≡◌, take, flat_map}
-use Rattle.slicc_plan.specs.Order.{first_after}
-use Rattle.machine_table.specs.Found.{found_by}
-use Rattle.body_rules.specs.MissingBy.{missing_by}
+use Rattle.slicc_plan.specs.Prelude.{first_after}
+use Rattle.machine_table.specs.Prelude.{found_by}
+use Rattle.body_rules.specs.Prelude.{missing_by}
 use Rattle.body_rules.proofs.missing.judge_several.Given as goal
 
 abbrev pub invariant-loop-name : goal.invariant-loop-name

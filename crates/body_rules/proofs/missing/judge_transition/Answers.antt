@@ -1,11 +1,10 @@
 use Rattle.std.proofs.Common.{◌≡◌, ◌++◌, ap, ◌∙◌, sym, flat_map}
 use Rattle.std.proofs.lemmas.Grind.{flat_map-append}
 use Rattle.slicc_plan.specs.Machines.{names_in}
-use Rattle.slicc_plan.specs.Order.{first_after}
-use Rattle.slicc_plan.specs.TransitionNames.{listed_name}
+use Rattle.slicc_plan.specs.Prelude.{first_after, listed_name}
 use Rattle.declaration_rules.proofs.Steps.{one_list_before}
-use Rattle.machine_table.specs.Found.{found_by}
-use Rattle.body_rules.specs.MissingBy.{missing_by}
+use Rattle.machine_table.specs.Prelude.{found_by}
+use Rattle.body_rules.specs.Prelude.{missing_by}
 use Rattle.body_rules.proofs.missing.judge_transition.Goals as goal
 
 pub returns : goal.returns

@@ -1,6 +1,6 @@
-use Rattle.slicc_plan.specs.Machines.{transition_in}
+use Rattle.slicc_plan.specs.Prelude.{transition_in}
 use Rattle.declaration_rules.proofs.Steps.{one_more_nested}
-use Rattle.body_rules.specs.MissingBy.{missing_with}
+use Rattle.body_rules.specs.Prelude.{missing_with}
 use Rattle.body_rules.proofs.missing.judge_transitions.Goals as goal
 
 pub loop-d-preserved : goal.loop-d-preserved

@@ -1,7 +1,6 @@
 use Rattle.std.proofs.Common.{ap, ◌∙◌, flat_map}
-use Rattle.slicc_plan.specs.Machines.{transition_in}
-use Rattle.slicc_plan.specs.Order.{first_after}
-use Rattle.body_rules.specs.MissingBy.{missing_with}
+use Rattle.slicc_plan.specs.Prelude.{transition_in, first_after}
+use Rattle.body_rules.specs.Prelude.{missing_with}
 use Rattle.body_rules.proofs.MissingNames.{transitions_same}
 use Rattle.body_rules.proofs.missing.missing_names.Goals as goal
 

@@ -1,8 +1,7 @@
 use Rattle.std.proofs.Common.{rules, ◌≡◌, ◌∙◌, ap, sym, flat_map}
 use Rattle.slicc_ast.specs.declared.tree.statement.Stmt.TheViews.{the_lemmas}
-use Rattle.slicc_plan.specs.Order.{first_of}
-use Rattle.slicc_plan.specs.Returns.{returns_in}
-use Rattle.body_rules.specs.Arms.{arm_returns, wrong_among}
+use Rattle.slicc_plan.specs.Prelude.{first_of, returns_in}
+use Rattle.body_rules.specs.Prelude.{arm_returns, wrong_among}
 use Rattle.body_rules.proofs.ReturnRows.{returning_row, wrong_step}
 use Rattle.body_rules.proofs.returning.+returning.Goals as goal
 

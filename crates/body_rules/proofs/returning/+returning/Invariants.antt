@@ -1,7 +1,6 @@
 use Rattle.std.proofs.Common.{◌≡◌, flat_map, take}
-use Rattle.slicc_plan.specs.Order.{first_of}
-use Rattle.slicc_plan.specs.Returns.{returns_in}
-use Rattle.body_rules.specs.Arms.{arm_returns, wrong_among}
+use Rattle.slicc_plan.specs.Prelude.{first_of, returns_in}
+use Rattle.body_rules.specs.Prelude.{arm_returns, wrong_among}
 use Rattle.body_rules.proofs.returning.+returning.Given as goal
 
 abbrev pub invariant-wrong_in_statements-loop-s : goal.invariant-wrong_in_statements-loop-s

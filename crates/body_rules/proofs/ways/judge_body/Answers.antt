@@ -1,6 +1,5 @@
 use Rattle.std.proofs.Common.{false, ap, sym, ◌∙◌}
-use Rattle.slicc_plan.specs.Order.{earlier_of_both}
-use Rattle.slicc_plan.specs.Returns.{wrong_returns}
+use Rattle.slicc_plan.specs.Prelude.{earlier_of_both, wrong_returns}
 use Rattle.slicc_plan.proofs.Firsts.{first_after-first_of}
 use Rattle.body_rules.proofs.ways.judge_body.Goals as goal
 

@@ -2,13 +2,10 @@ use Rattle.std.proofs.Common.{◌≡◌, Bool, not, List, ap, sym, ◌∙◌}
 use Rattle.slicc_ast.specs.declared.tree.declaration.Function.TheVariants.{Plain}
 use Rattle.slicc_plan.specs.declared.broken.Broken.{Broken}
 use Rattle.slicc_plan.specs.declared.built_in.BuiltInType.TheVariants.{Void}
-use Rattle.slicc_plan.specs.Declarations.{function}
-use Rattle.slicc_plan.specs.Order.{earlier_of_both, first_after, first_of}
-use Rattle.slicc_plan.specs.Returns.{wrong_ends}
-use Rattle.slicc_plan.specs.Types.{is_built_in, type_in}
+use Rattle.slicc_plan.specs.Prelude.{function, earlier_of_both, first_after, first_of, wrong_ends, is_built_in, type_in}
 use Rattle.slicc_plan.proofs.Firsts.{first_after-first_of}
-use Rattle.declared_types.specs.Scopes.{scope_at}
-use Rattle.body_rules.specs.Ways.{ways_of}
+use Rattle.declared_types.specs.Prelude.{scope_at}
+use Rattle.body_rules.specs.Prelude.{ways_of}
 use Rattle.body_rules.proofs.ways.judge_function.Goals as goal
 
 pub returns-in-Some : goal.returns-in-Some

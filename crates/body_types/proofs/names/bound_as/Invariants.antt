@@ -1,6 +1,6 @@
 use Rattle.std.proofs.Common.{◌≡◌, ◌≤◌, length, map, reverse, take}
-use Rattle.slicc_plan.specs.Environment.{bound_as}
-use Rattle.body_types.specs.Environments.{bound_of}
+use Rattle.slicc_plan.specs.Prelude.{bound_as}
+use Rattle.body_types.specs.Prelude.{bound_of}
 use Rattle.body_types.proofs.names.bound_as.Given as goal
 
 abbrev pub invariant-loop-left : goal.invariant-loop-left

@@ -1,9 +1,9 @@
 use Rattle.std.proofs.Common.{◌≡◌, ◌∙◌, true, false, codes, sym, ap}
 use Rattle.std.specs.Str.{bytes_eq}
-use Rattle.acts.specs.DoesAs.{itself}
+use Rattle.acts.specs.Prelude.{itself}
 use Rattle.acts.proofs.Walk.{does_ends_as}
 use Rattle.body_meaning.specs.declared.thing.Thing.TheVariants as thing
-use Rattle.body_meaning.specs.Calls.{free_call}
+use Rattle.body_meaning.specs.Prelude.{free_call}
 use Rattle.body_walk.proofs.built.free_call.Goals as goal
 
 pub returns-then-eq : goal.returns-then-eq

@@ -2,11 +2,10 @@ use Rattle.std.proofs.Common.{length, refl, sym, ap, subst, ◌∙◌}
 use Rattle.std.proofs.lemmas.Result.{err_from_is_err_and}
 use Rattle.ruby_value.specs.declared.fault.Fault.TheVariants.{Reference}
 use Rattle.acts.specs.declared.body_fault.BodyFault.TheVariants as own
-use Rattle.acts.specs.DoesAs.{DoesAs, itself}
+use Rattle.acts.specs.Prelude.{DoesAs, itself}
 use Rattle.acts.proofs.Walk.{does_without_memory, found_does, found_stops}
-use Rattle.body_meaning.specs.declared.calls.Numbered.{Numbered}
-use Rattle.body_meaning.specs.Calls.{called_on, method_call, thing_built, with_receiver}
-use Rattle.body_meaning.specs.Reading.{reading}
+use Rattle.body_meaning.specs.declared.thing.Numbered.{Numbered}
+use Rattle.body_meaning.specs.Prelude.{called_on, method_call, thing_built, with_receiver, reading}
 use Rattle.body_walk.proofs.built.method_call.Goals as goal
 
 pub returns-in_default : goal.returns-in_default

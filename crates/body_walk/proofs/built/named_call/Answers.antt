@@ -1,7 +1,7 @@
 use Rattle.std.proofs.Common.{◌≡◌, ◌∙◌, Some, sym}
-use Rattle.ruby_symbols.specs.Names.{function_named}
-use Rattle.body_meaning.specs.Calls.{named_call}
-use Rattle.body_walk.specs.CallsDo.{CallsDo}
+use Rattle.ruby_symbols.specs.Prelude.{function_named}
+use Rattle.body_meaning.specs.Prelude.{named_call}
+use Rattle.body_walk.specs.Prelude.{CallsDo}
 use Rattle.body_walk.proofs.built.named_call.Goals as goal
 
 pub returns-in-Some : goal.returns-in-Some

@@ -1,5 +1,5 @@
 use Rattle.std.proofs.lemmas.Result.{err_from_is_err_and}
-use Rattle.acts.specs.DoesAs.{itself}
+use Rattle.acts.specs.Prelude.{itself}
 use Rattle.acts.proofs.Walk.{does_without_memory}
 use Rattle.body_walk.proofs.built.permission_call.Goals as goal
 

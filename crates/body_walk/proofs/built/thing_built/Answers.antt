@@ -1,7 +1,7 @@
 use Rattle.std.proofs.lemmas.Result.{err_from_is_err_and}
-use Rattle.acts.specs.DoesAs.{itself}
+use Rattle.acts.specs.Prelude.{itself}
 use Rattle.acts.proofs.Walk.{does_ends_as, then_does, then_stops}
-use Rattle.body_meaning.specs.Calls.{thing_built}
+use Rattle.body_meaning.specs.Prelude.{thing_built}
 use Rattle.body_walk.proofs.built.thing_built.Goals as goal
 
 pub returns-in_err-v : goal.returns-in_err-v

@@ -1,16 +1,10 @@
 use Rattle.std.proofs.Common.{◌≡◌, ◌∙◌, ◌++◌, ◌∷◌, [], ℕ, List, None, ap, refl, subst, sym}
 use Rattle.std.proofs.lemmas.Result.{err_from_is_err_and}
 use Rattle.ruby_value.specs.declared.value.Value.{Value}
-use Rattle.acts.specs.Acting.{Acting, given}
-use Rattle.acts.specs.DoesAs.{DoesAs, itself}
+use Rattle.acts.specs.Prelude.{Acting, given, DoesAs, itself}
 use Rattle.acts.proofs.Walk.{decided_does, does_ends_as, then_does, then_stops, undecided_does}
 use Rattle.body_meaning.specs.declared.thing.Thing.{Thing}
-use Rattle.body_meaning.specs.Bodies.{calls_within}
-use Rattle.body_meaning.specs.Calls.{index, method_call}
-use Rattle.body_meaning.specs.Each.{each}
-use Rattle.body_meaning.specs.Expressions.{field_in, operand_step, operated, suffixed, value_step, values_of}
-use Rattle.body_meaning.specs.Operators.{joined, settled}
-use Rattle.body_meaning.specs.Reading.{reading}
+use Rattle.body_meaning.specs.Prelude.{calls_within, index, method_call, each, field_in, operand_step, operated, suffixed, value_step, values_of, joined, settled, reading}
 use Rattle.body_walk.proofs.Arms.{call_does, inner_does, leaf_is, method_does, method_stops, operand_does, operation_does, operation_stops, postfix_does, postfix_stops, value_added, value_not_added}
 use Rattle.body_walk.proofs.Each.{leads_ends, leads_more, leads_stops}
 use Rattle.body_walk.proofs.expressions.+value.Goals as goal

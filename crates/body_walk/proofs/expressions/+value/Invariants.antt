@@ -1,8 +1,5 @@
 use Rattle.std.proofs.Common.{[], drop}
-use Rattle.body_meaning.specs.Bodies.{calls_within}
-use Rattle.body_meaning.specs.Each.{each}
-use Rattle.body_meaning.specs.Expressions.{operand_step, suffixed, value_step}
-use Rattle.body_meaning.specs.Reading.{reading}
+use Rattle.body_meaning.specs.Prelude.{calls_within, each, operand_step, suffixed, value_step, reading}
 use Rattle.body_walk.proofs.Each.{Leads}
 use Rattle.body_walk.proofs.expressions.+value.Given as goal
 

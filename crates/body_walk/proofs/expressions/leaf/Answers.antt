@@ -5,13 +5,12 @@ use Rattle.ruby_value.specs.declared.value.Value.TheVariants.{Int}
 use Rattle.slicc_ast.specs.declared.tree.span.Span.{Span}
 use Rattle.slicc_ast.specs.declared.tree.name.Name.{Name}
 use Rattle.slicc_ast.specs.declared.tree.expression.Expr.{Expr, Number, True, False, Nothing, Variable, Member}
-use Rattle.acts.specs.Acting.{ends}
-use Rattle.acts.specs.DoesAs.{itself}
+use Rattle.acts.specs.Prelude.{ends, itself}
 use Rattle.acts.proofs.Walk.{does_ends_as}
 use Rattle.body_meaning.specs.declared.frame.Frame.{Frame}
 use Rattle.body_meaning.specs.declared.thing.Thing.TheVariants as thing
-use Rattle.body_meaning.specs.Reading.{Reading, reading}
-use Rattle.body_walk.specs.Parts.{leaf}
+use Rattle.body_meaning.specs.Prelude.{Reading, reading}
+use Rattle.body_walk.specs.Prelude.{leaf}
 use Rattle.body_walk.proofs.expressions.leaf.Goals as goal
 
 -- what is none of these gives nothing

@@ -1,10 +1,7 @@
 use Rattle.std.proofs.lemmas.Result.{err_from_is_err_and}
-use Rattle.acts.specs.DoesAs.{itself}
+use Rattle.acts.specs.Prelude.{itself}
 use Rattle.acts.proofs.Walk.{then_does, then_stops}
-use Rattle.body_meaning.specs.Bodies.{calls_within}
-use Rattle.body_meaning.specs.Each.{each}
-use Rattle.body_meaning.specs.Expressions.{suffixed, value, value_behind}
-use Rattle.body_meaning.specs.Reading.{reading}
+use Rattle.body_meaning.specs.Prelude.{calls_within, each, suffixed, value, value_behind, reading}
 use Rattle.body_walk.proofs.expressions.value_behind.Goals as goal
 
 pub returns-in_err-t : goal.returns-in_err-t

@@ -1,5 +1,5 @@
 use Rattle.std.proofs.Common.{◌≡◌, ◌∙◌, sym, ap}
-use Rattle.body_meaning.specs.Places.{name_in}
+use Rattle.body_meaning.specs.Prelude.{name_in}
 use Rattle.body_walk.proofs.Forms.{name_in_Group}
 use Rattle.body_walk.proofs.finding.+name_in.Goals as goal
 

@@ -2,10 +2,9 @@ use Rattle.std.proofs.Common.{refl}
 use Rattle.std.proofs.lemmas.Result.{err_from_is_err_and}
 use Rattle.ruby_value.specs.declared.fault.Fault.TheVariants.{Reference}
 use Rattle.acts.specs.declared.body_fault.BodyFault.TheVariants as own
-use Rattle.acts.specs.DoesAs.{itself}
+use Rattle.acts.specs.Prelude.{itself}
 use Rattle.acts.proofs.Walk.{does_ends_as, does_stops, does_without_memory}
-use Rattle.body_meaning.specs.Bodies.{calls_within}
-use Rattle.body_meaning.specs.Reading.{reading}
+use Rattle.body_meaning.specs.Prelude.{calls_within, reading}
 use Rattle.body_walk.proofs.PlaceForms.{group_place, other_place, postfix_place}
 use Rattle.body_walk.proofs.finding.+place_of.Goals as goal
 

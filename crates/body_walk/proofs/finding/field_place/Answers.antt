@@ -5,13 +5,11 @@ use Rattle.ruby_value.specs.declared.fields.Fields.{Fields}
 use Rattle.ruby_value.specs.declared.fault.Fault.TheVariants.{Reference}
 use Rattle.ruby_value.specs.declared.value.Value.{Value}
 use Rattle.acts.specs.declared.body_fault.BodyFault.TheVariants as own
-use Rattle.acts.specs.Acting.{stops}
-use Rattle.acts.specs.DoesAs.{itself}
+use Rattle.acts.specs.Prelude.{stops, itself}
 use Rattle.acts.proofs.Walk.{does_stops, does_without_memory}
 use Rattle.body_meaning.specs.declared.thing.Thing.{Thing}
 use Rattle.body_meaning.specs.declared.thing.Thing.TheVariants as thing
-use Rattle.body_meaning.specs.Places.{field_place}
-use Rattle.body_meaning.specs.Reading.{Reading, reading}
+use Rattle.body_meaning.specs.Prelude.{field_place, Reading, reading}
 use Rattle.body_walk.proofs.finding.field_place.Goals as goal
 
 -- nothing else has fields

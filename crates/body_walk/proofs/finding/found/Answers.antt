@@ -1,5 +1,5 @@
 use Rattle.std.proofs.Common.{refl}
-use Rattle.acts.specs.DoesAs.{itself}
+use Rattle.acts.specs.Prelude.{itself}
 use Rattle.body_walk.proofs.Ends.{found_ends, found_fails}
 use Rattle.body_walk.proofs.finding.found.Goals as goal
 

@@ -2,14 +2,11 @@ use Rattle.std.proofs.Common.{◌≡◌, None, Ok, Some, refl, sym, ◌∙◌}
 use Rattle.ruby_value.specs.declared.value.Ref.{Ref}
 use Rattle.ruby_value.specs.declared.fault.Fault.TheVariants.{Reference}
 use Rattle.acts.specs.declared.body_fault.BodyFault.TheVariants as own
-use Rattle.acts.specs.Acting.{◌>>=◌, ends, found}
-use Rattle.acts.specs.DoesAs.{itself}
+use Rattle.acts.specs.Prelude.{◌>>=◌, ends, found, itself}
 use Rattle.acts.proofs.Walk.{does_ends_as, found_does, found_stops}
-use Rattle.built_in_acts.specs.Values.{reference}
-use Rattle.body_meaning.specs.declared.place.Place.TheVariants.{Line}
-use Rattle.body_meaning.specs.Names.{line_field}
-use Rattle.body_meaning.specs.Places.{line_place}
-use Rattle.body_meaning.specs.Reading.{reading}
+use Rattle.built_in_acts.specs.Prelude.{reference}
+use Rattle.body_meaning.specs.declared.frame.Place.TheVariants.{Line}
+use Rattle.body_meaning.specs.Prelude.{line_field, line_place, reading}
 use Rattle.body_walk.proofs.finding.line_place.Goals as goal
 
 pub returns-in_default : goal.returns-in_default

@@ -1,5 +1,5 @@
 use Rattle.std.proofs.Common.{◌≡◌, length}
-use Rattle.body_meaning.specs.Frames.{outermost}
+use Rattle.body_meaning.specs.Prelude.{outermost}
 use Rattle.body_walk.proofs.frames.leave.Given as goal
 
 abbrev pub invariant-loop-frame : goal.invariant-loop-frame

@@ -1,6 +1,6 @@
 use Rattle.std.proofs.Common.{refl}
 use Rattle.std.proofs.lemmas.Result.{err_from_is_err_and}
-use Rattle.acts.specs.DoesAs.{itself}
+use Rattle.acts.specs.Prelude.{itself}
 use Rattle.acts.proofs.Walk.{does_without_memory}
 use Rattle.body_walk.proofs.Ends.{found_ends, found_fails}
 use Rattle.body_walk.proofs.places.part_value.Goals as goal

@@ -1,7 +1,7 @@
 use Rattle.std.proofs.Common.{Some, sym, ap}
-use Rattle.acts.specs.DoesAs.{itself}
+use Rattle.acts.specs.Prelude.{itself}
 use Rattle.acts.proofs.Walk.{does_ends_as}
-use Rattle.built_in_acts.specs.BuiltIn.{built_in}
+use Rattle.built_in_acts.specs.Prelude.{built_in}
 use Rattle.built_in_acts.proofs.Told.{without_memory}
 use Rattle.built_in_acts.proofs.doing.built_in.Goals as goal
 

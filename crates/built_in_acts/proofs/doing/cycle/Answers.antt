@@ -2,8 +2,7 @@ use Rattle.std.proofs.Common.{◌≡◌, ◌<◌, ◌^◌, ◌∙◌, ℕ, pos, 
 use Rattle.std.proofs.lemmas.Int.{ints, to_z_pos}
 use Rattle.ruby_value.specs.declared.value.Value.{Value}
 use Rattle.ruby_value.specs.declared.value.Value.TheVariants as value
-use Rattle.acts.specs.Act.{Now}
-use Rattle.acts.specs.Acting.{act}
+use Rattle.acts.specs.Prelude.{Now, act}
 use Rattle.built_in_acts.proofs.Cycles.{cycle_is_small, is_cycle}
 use Rattle.built_in_acts.proofs.Told.{told_does}
 use Rattle.built_in_acts.proofs.doing.cycle.Goals as goal

@@ -2,9 +2,9 @@ use mir.Val.{SFits}
 use Rattle.std.proofs.Common.{◌∙◌, refl, ap, rules, w64}
 use Rattle.std.proofs.lemmas.Int.{to_z-of_z}
 use Rattle.acts.specs.Act as act
-use Rattle.acts.specs.Acting.{act as done}
+use Rattle.acts.specs.Prelude.{act as done}
 use Rattle.built_in_acts.proofs.Told.{silent_as, silent_fails, told_as, told_fails}
-use Rattle.built_in_acts.specs.Values.{argument, line_named}
+use Rattle.built_in_acts.specs.Prelude.{argument, line_named}
 use Rattle.built_in_acts.proofs.doing.on_controller.Goals as goal
 
 pub returns-in_err-read_back-in-ReadCallback : goal.returns-in_err-read_back-in-ReadCallback

@@ -2,7 +2,7 @@ use mir.Val.{SFits}
 use Rattle.std.proofs.Common.{◌∙◌, refl, ap, rules, w64}
 use Rattle.std.proofs.lemmas.Int.{to_z-of_z}
 use Rattle.ruby_value.specs.declared.value.Value.TheVariants as value
-use Rattle.built_in_acts.specs.Machines.{home_in, place_of, range_at, with_range}
+use Rattle.built_in_acts.specs.Prelude.{home_in, place_of, range_at, with_range}
 use Rattle.built_in_acts.proofs.Told.{told_as, told_fails, without_memory}
 use Rattle.built_in_acts.proofs.doing.on_machines.Goals as goal
 

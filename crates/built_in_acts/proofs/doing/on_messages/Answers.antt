@@ -2,7 +2,7 @@ use mir.Val.{SFits}
 use Rattle.std.proofs.Common.{◌∙◌, refl, ap, rules, w64}
 use Rattle.std.proofs.lemmas.Int.{to_z-of_z}
 use Rattle.acts.specs.Act as act
-use Rattle.acts.specs.Acting.{act as done}
+use Rattle.acts.specs.Prelude.{act as done}
 use Rattle.built_in_acts.proofs.Told.{silent_as, silent_fails, told_as, told_fails}
 use Rattle.built_in_acts.proofs.doing.on_messages.Goals as goal
 use Rattle.built_in_acts.proofs.doing.on_messages.Goals.{in-Dequeue+in_ok-pop-in-Dequeue, in-Recycle+in_ok-recycle-in-Recycle, in-RecycleFor+in_ok-recycle-in-RecycleFor, in-Stall+in_ok-stall-in-Stall, in-Wake+in_ok-wake-in-Wake, in-WakeAll+in_ok-wake_all-in-WakeAll}

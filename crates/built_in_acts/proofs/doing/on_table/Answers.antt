@@ -1,7 +1,7 @@
 use Rattle.std.proofs.Common.{refl, ap}
 use Rattle.ruby_value.specs.declared.value.Value.TheVariants as value
 use Rattle.acts.specs.Act as act
-use Rattle.acts.specs.Acting.{act as done}
+use Rattle.acts.specs.Prelude.{act as done}
 use Rattle.built_in_acts.proofs.Told.{silent_as, silent_fails, told_as, told_fails}
 use Rattle.built_in_acts.proofs.doing.on_table.Goals as goal
 

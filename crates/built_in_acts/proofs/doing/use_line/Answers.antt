@@ -1,11 +1,8 @@
 use Rattle.std.proofs.Common.{sym, ◌∙◌}
 use Rattle.acts.specs.declared.body_fault.BodyFault.TheVariants as own
-use Rattle.acts.specs.Act.{Touch}
-use Rattle.acts.specs.Acting.{act}
-use Rattle.acts.specs.DoesAs.{itself}
+use Rattle.acts.specs.Prelude.{Touch, act, itself}
 use Rattle.acts.proofs.Walk.{found_does}
-use Rattle.built_in_acts.specs.BuiltIn.{line_used, used}
-use Rattle.built_in_acts.specs.Values.{argument}
+use Rattle.built_in_acts.specs.Prelude.{line_used, used, argument}
 use Rattle.built_in_acts.proofs.doing.use_line.Goals as goal
 
 pub returns : goal.returns

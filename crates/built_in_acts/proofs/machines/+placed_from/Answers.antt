@@ -1,6 +1,6 @@
 use Rattle.std.proofs.Common.{◌∙◌, refl, sym, ap}
 use Rattle.std.proofs.lemmas.Result.{err_from_is_err_and}
-use Rattle.acts.specs.DoesAs.{itself}
+use Rattle.acts.specs.Prelude.{itself}
 use Rattle.acts.proofs.Walk.{does_ends_as, false_does, then_does, then_stops, true_does}
 use Rattle.built_in_acts.proofs.Placing.{first_place, placed_more, placed_none}
 use Rattle.built_in_acts.proofs.machines.+placed_from.Goals as goal

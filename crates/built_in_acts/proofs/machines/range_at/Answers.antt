@@ -1,9 +1,9 @@
 use Rattle.std.proofs.Common.{◌≡◌, None, refl, true, false, nat_lt, arith}
 use Rattle.std.proofs.lemmas.Bool.{le-ltb, lt-ltb}
 use Rattle.std.proofs.lemmas.Result.{err_from_is_err_and}
-use Rattle.acts.specs.DoesAs.{itself}
+use Rattle.acts.specs.Prelude.{itself}
 use Rattle.acts.proofs.Walk.{does_ends_as, false_does, then_does, then_stops, true_does}
-use Rattle.built_in_acts.specs.Machines.{range_at}
+use Rattle.built_in_acts.specs.Prelude.{range_at}
 use Rattle.built_in_acts.proofs.machines.range_at.Goals as goal
 
 pub returns-then-machine-from-clause-does : goal.returns-then-machine-from-clause-does

@@ -1,11 +1,8 @@
 use Rattle.std.proofs.Common.{sym, ◌∙◌}
 use Rattle.acts.specs.declared.body_fault.BodyFault.TheVariants as own
-use Rattle.acts.specs.Act.{Set}
-use Rattle.acts.specs.Acting.{act}
-use Rattle.acts.specs.DoesAs.{itself}
+use Rattle.acts.specs.Prelude.{Set, act, itself}
 use Rattle.acts.proofs.Walk.{found_does}
-use Rattle.built_in_acts.specs.Operators.{with_field}
-use Rattle.built_in_acts.specs.Values.{reference}
+use Rattle.built_in_acts.specs.Prelude.{with_field, reference}
 use Rattle.built_in_acts.proofs.operators.with_field.Goals as goal
 
 pub returns : goal.returns

@@ -1,5 +1,5 @@
 use Rattle.std.proofs.Common.{◌≡◌, fold, length}
-use Rattle.ruby_value.specs.WithMember.{with_member}
+use Rattle.ruby_value.specs.Prelude.{with_member}
 use Rattle.built_in_acts.proofs.Going.{Rise}
 use Rattle.built_in_acts.proofs.sets.add_all.Given as goal
 

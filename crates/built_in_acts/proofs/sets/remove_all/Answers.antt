@@ -1,5 +1,5 @@
 use Rattle.std.proofs.Common.{◌≡◌, ◌∙◌, ◌∷◌, ◌<◌, [], List, ℕ, ap, fold, length, refl, subst, sym, arith}
-use Rattle.ruby_value.specs.WithoutMember.{without_member}
+use Rattle.ruby_value.specs.Prelude.{without_member}
 use Rattle.built_in_acts.proofs.Going.{Rise, TakenOut, fold_none, fold_step, none_left, rise_from, taken_out}
 use Rattle.built_in_acts.proofs.sets.remove_all.Goals as goal
 

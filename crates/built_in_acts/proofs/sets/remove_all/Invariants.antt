@@ -1,5 +1,5 @@
 use Rattle.std.proofs.Common.{◌≡◌, fold, length}
-use Rattle.ruby_value.specs.WithoutMember.{without_member}
+use Rattle.ruby_value.specs.Prelude.{without_member}
 use Rattle.built_in_acts.proofs.Going.{Rise}
 use Rattle.built_in_acts.proofs.sets.remove_all.Given as goal
 

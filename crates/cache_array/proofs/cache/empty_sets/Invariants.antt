@@ -1,5 +1,5 @@
 use Rattle.std.proofs.Common.{◌≡◌, [], All, replicate}
-use Rattle.cache_array.specs.Holds.{HasPlaces, lines_of}
+use Rattle.cache_array.specs.Prelude.{HasPlaces, lines_of}
 use Rattle.cache_array.proofs.cache.empty_sets.Given as goal
 
 abbrev pub invariant-loop-set : goal.invariant-loop-set

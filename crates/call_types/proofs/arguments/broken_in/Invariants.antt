@@ -1,7 +1,6 @@
 use Rattle.std.proofs.Common.{◌≡◌, take}
-use Rattle.slicc_plan.specs.CallTypes.{broken_in}
-use Rattle.slicc_plan.specs.Order.{first_of}
-use Rattle.body_types.specs.Found.{all_given_of}
+use Rattle.slicc_plan.specs.Prelude.{broken_in, first_of}
+use Rattle.body_types.specs.Prelude.{all_given_of}
 use Rattle.call_types.proofs.arguments.broken_in.Given as goal
 
 abbrev pub invariant-loop-g : goal.invariant-loop-g

@@ -1,11 +1,8 @@
 use Rattle.std.proofs.Common.{◌+◌, ◌∙◌, ap, drop, map, slice_get}
 use Rattle.std.specs.Option.{option_map}
-use Rattle.slicc_plan.specs.CallTypes.{wrong_arguments}
-use Rattle.slicc_plan.specs.Order.{earlier_of_both, first_of}
-use Rattle.body_types.specs.Environments.{environment_of}
-use Rattle.body_types.specs.Found.{all_given_of, given_of}
-use Rattle.body_types.specs.Views.{wanted_of}
-use Rattle.call_types.specs.Arguments.{wrong_at}
+use Rattle.slicc_plan.specs.Prelude.{wrong_arguments, earlier_of_both, first_of}
+use Rattle.body_types.specs.Prelude.{environment_of, all_given_of, given_of, wanted_of}
+use Rattle.call_types.specs.Prelude.{wrong_at}
 use Rattle.call_types.proofs.Steps.{wrong_arguments_kept}
 use Rattle.call_types.proofs.arguments.wrong_arguments.Goals as goal
 

@@ -1,9 +1,6 @@
 use Rattle.std.proofs.Common.{◌≡◌, drop, map}
-use Rattle.slicc_plan.specs.CallTypes.{wrong_arguments}
-use Rattle.slicc_plan.specs.Order.{earlier_of_both, first_of}
-use Rattle.body_types.specs.Environments.{environment_of}
-use Rattle.body_types.specs.Found.{all_given_of}
-use Rattle.body_types.specs.Views.{wanted_of}
+use Rattle.slicc_plan.specs.Prelude.{wrong_arguments, earlier_of_both, first_of}
+use Rattle.body_types.specs.Prelude.{environment_of, all_given_of, wanted_of}
 use Rattle.call_types.proofs.arguments.wrong_arguments.Given as goal
 
 abbrev pub invariant-loop-number : goal.invariant-loop-number

@@ -1,6 +1,6 @@
 use Rattle.std.proofs.Common.{◌≡◌, drop, map, find}
-use Rattle.slicc_plan.specs.CallTypes.{is_call_on}
-use Rattle.declared_types.specs.Calls.{call_of, receiver_of}
+use Rattle.slicc_plan.specs.Prelude.{is_call_on}
+use Rattle.declared_types.specs.Prelude.{call_of, receiver_of}
 use Rattle.call_types.proofs.called.first_call.Given as goal
 
 abbrev pub invariant-loop-c : goal.invariant-loop-c

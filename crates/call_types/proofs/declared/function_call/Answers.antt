@@ -1,9 +1,6 @@
 use Rattle.std.proofs.Common.{◌∙◌, ap}
-use Rattle.slicc_plan.specs.CallTypes.{function_call}
-use Rattle.slicc_plan.specs.Meanings.{answer_of_type}
-use Rattle.slicc_plan.specs.Types.{type_in}
-use Rattle.body_types.specs.Environments.{environment_of}
-use Rattle.body_types.specs.Found.{all_given_of, typed_of}
+use Rattle.slicc_plan.specs.Prelude.{function_call, answer_of_type, type_in}
+use Rattle.body_types.specs.Prelude.{environment_of, all_given_of, typed_of}
 use Rattle.call_types.proofs.Steps.{counted_formals, found_plain}
 use Rattle.call_types.proofs.declared.function_call.Goals as goal
 

@@ -1,10 +1,9 @@
 use Rattle.std.proofs.Common.{◌≡◌, IfOk, [], sym, subst}
-use Rattle.slicc_plan.specs.CallTypes.{built_in_call, plain}
+use Rattle.slicc_plan.specs.Prelude.{built_in_call, plain}
 use Rattle.slicc_plan.specs.Meanings.{nothing}
 use Rattle.body_types.specs.declared.typed.Typed.{Typed}
-use Rattle.body_types.specs.Environments.{environment_of}
-use Rattle.body_types.specs.Found.{all_given_of, found_of, typed_of}
-use Rattle.call_types.specs.Called.{call_for}
+use Rattle.body_types.specs.Prelude.{environment_of, all_given_of, found_of, typed_of}
+use Rattle.call_types.specs.Prelude.{call_for}
 use Rattle.call_types.proofs.declared.undeclared_call.Goals as goal
 
 pub returns-in-BuiltIn : goal.returns-in-BuiltIn

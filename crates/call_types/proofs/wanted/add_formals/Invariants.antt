@@ -1,7 +1,6 @@
 use Rattle.std.proofs.Common.{◌≡◌, ◌++◌, take, map}
-use Rattle.slicc_plan.specs.CallTypes.{formal_wanted}
-use Rattle.body_types.specs.Environments.{environment_of}
-use Rattle.body_types.specs.Views.{wanted_of}
+use Rattle.slicc_plan.specs.Prelude.{formal_wanted}
+use Rattle.body_types.specs.Prelude.{environment_of, wanted_of}
 use Rattle.call_types.proofs.wanted.add_formals.Given as goal
 
 abbrev pub invariant-loop-f : goal.invariant-loop-f

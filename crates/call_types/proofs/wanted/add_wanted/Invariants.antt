@@ -1,7 +1,7 @@
 use Rattle.std.proofs.Common.{◌≡◌, ◌++◌, take, map}
-use Rattle.slicc_plan.specs.CallTypes.{wanted_by}
-use Rattle.declared_types.specs.Calls.{argument_of, receiver_of}
-use Rattle.body_types.specs.Views.{wanted_of}
+use Rattle.slicc_plan.specs.Prelude.{wanted_by}
+use Rattle.declared_types.specs.Prelude.{argument_of, receiver_of}
+use Rattle.body_types.specs.Prelude.{wanted_of}
 use Rattle.call_types.proofs.wanted.add_wanted.Given as goal
 
 abbrev pub invariant-loop-a : goal.invariant-loop-a

@@ -1,5 +1,5 @@
 use Rattle.std.proofs.Common.{◌≡◌, map, take}
-use Rattle.controller_rows.specs.Samples.{buffer_setup}
+use Rattle.controller_rows.specs.Prelude.{buffer_setup}
 use Rattle.controller_rows.proofs.machines.buffers.Given as goal
 
 abbrev pub invariant-loop-row : goal.invariant-loop-row

@@ -1,5 +1,5 @@
 use Rattle.std.proofs.Common.{◌≡◌, map, take}
-use Rattle.controller_rows.specs.Samples.{table_setup}
+use Rattle.controller_rows.specs.Prelude.{table_setup}
 use Rattle.controller_rows.proofs.machines.tables.Given as goal
 
 abbrev pub invariant-loop-row : goal.invariant-loop-row

@@ -1,4 +1,4 @@
-use Rattle.controller_rows.specs.Samples.{paths_from}
+use Rattle.controller_rows.specs.Prelude.{paths_from}
 use Rattle.controller_rows.proofs.Ranges.{pushed}
 use Rattle.controller_rows.proofs.paths.all_paths.Goals as goal
 

@@ -1,5 +1,5 @@
 use Rattle.std.proofs.Common.{refl}
-use Rattle.ctl_store.specs.Drafted.{view_of}
+use Rattle.ctl_store.specs.Prelude.{view_of}
 use Rattle.controller_rows.proofs.scans.round.Goals as goal
 
 pub returns : goal.returns

@@ -1,5 +1,5 @@
 use Rattle.std.proofs.Common.{◌≡◌, ◌+◌, drop}
-use Rattle.controller_rows.specs.Script.{count_due}
+use Rattle.controller_rows.specs.Prelude.{count_due}
 use Rattle.controller_rows.proofs.script.count_due.Given as goal
 
 abbrev pub invariant-loop-i : goal.invariant-loop-i

@@ -1,7 +1,6 @@
 use Rattle.std.proofs.Common.{◌+◌, List, length, arith, refl, subst, sym, ◌∙◌}
-use Rattle.sequencer.specs.Seats.{Seat}
-use Rattle.sequencer.specs.Drive.{after_taking}
-use Rattle.controller_rows.specs.Script.{first_answers}
+use Rattle.sequencer.specs.Prelude.{Seat, after_taking}
+use Rattle.controller_rows.specs.Prelude.{first_answers}
 use Rattle.controller_rows.proofs.Taking.{EndsAt, begins, ends, goes-on}
 use Rattle.controller_rows.proofs.script.take_first.Goals as goal
 

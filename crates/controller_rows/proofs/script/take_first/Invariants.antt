@@ -1,6 +1,6 @@
 use Rattle.std.proofs.Common.{◌≡◌, ◌≤◌, length}
-use Rattle.sequencer.specs.Drive.{after_taking}
-use Rattle.controller_rows.specs.Script.{first_answers}
+use Rattle.sequencer.specs.Prelude.{after_taking}
+use Rattle.controller_rows.specs.Prelude.{first_answers}
 use Rattle.controller_rows.proofs.Taking.{EndsAt}
 use Rattle.controller_rows.proofs.script.take_first.Given as goal
 

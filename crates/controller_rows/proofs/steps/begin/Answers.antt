@@ -1,6 +1,6 @@
 use Rattle.std.proofs.Common.{◌-◌, arith}
-use Rattle.ctl_face.specs.Between.{at_cycle}
-use Rattle.ctl_store.specs.Kept.{ctl_of, machine_of, me_of}
+use Rattle.ctl_face.specs.Prelude.{at_cycle}
+use Rattle.ctl_store.specs.Prelude.{ctl_of, machine_of, me_of}
 use Rattle.controller_rows.proofs.Going.{goes_as}
 use Rattle.controller_rows.proofs.steps.begin.Goals as goal
 

@@ -1,7 +1,6 @@
 use Rattle.std.proofs.Common.{◌+◌, ap, ◌∙◌}
-use Rattle.ctl_face.specs.Between.{with_wake_up}
-use Rattle.ctl_face.specs.Ctl.{Ctl}
-use Rattle.ctl_store.specs.Kept.{ctl_of, machine_of, me_of}
+use Rattle.ctl_face.specs.Prelude.{with_wake_up, Ctl}
+use Rattle.ctl_store.specs.Prelude.{ctl_of, machine_of, me_of}
 use Rattle.controller_rows.proofs.Going.{goes_as, same_then}
 use Rattle.controller_rows.proofs.steps.wake_again.Goals as goal
 

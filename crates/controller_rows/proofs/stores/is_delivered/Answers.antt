@@ -1,6 +1,6 @@
 use Rattle.std.proofs.Common.{◌≡◌, rules}
-use Rattle.ctl_face.specs.OfMachine.{TakesFields}
-use Rattle.ctl_store.specs.Kept.{ctl_of, machine_of}
+use Rattle.ctl_face.specs.Prelude.{TakesFields}
+use Rattle.ctl_store.specs.Prelude.{ctl_of, machine_of}
 use Rattle.controller_rows.proofs.Arriving.{arrived_goes, new_in_none, same_goes}
 use Rattle.controller_rows.proofs.stores.is_delivered.Goals as goal
 

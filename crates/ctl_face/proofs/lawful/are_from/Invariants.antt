@@ -1,6 +1,6 @@
 use Rattle.std.proofs.Common.{ℕ, ◌<◌, slice_get}
 use Rattle.std.specs.Option.{option_flatten}
-use Rattle.ctl_face.specs.RoutesFit.{IsFrom}
+use Rattle.ctl_face.specs.Prelude.{IsFrom}
 use Rattle.ctl_face.proofs.lawful.are_from.Given as goal
 
 abbrev pub invariant-loop-network : goal.invariant-loop-network

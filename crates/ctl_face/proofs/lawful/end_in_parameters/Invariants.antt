@@ -1,5 +1,5 @@
 use Rattle.std.proofs.Common.{◌≡◌, ℕ, ◌+◌, ◌<◌, eqb, IfSome, length, slice_get}
-use Rattle.ctl_face.specs.IsMachine.{is_parameters}
+use Rattle.ctl_face.specs.Prelude.{is_parameters}
 use Rattle.ctl_face.proofs.lawful.end_in_parameters.Given as goal
 
 abbrev pub invariant-loop-table : goal.invariant-loop-table

@@ -1,5 +1,5 @@
 use Rattle.std.proofs.Common.{ℕ, ◌<◌, IfSome, slice_get}
-use Rattle.ctl_face.specs.RoutesFit.{IsNamed}
+use Rattle.ctl_face.specs.Prelude.{IsNamed}
 use Rattle.ctl_face.proofs.lawful.names_buffers.Given as goal
 
 abbrev pub invariant-loop-buffer : goal.invariant-loop-buffer

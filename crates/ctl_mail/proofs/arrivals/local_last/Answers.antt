@@ -1,10 +1,8 @@
 use Rattle.std.proofs.Common.{◌≡◌, ℕ, None, Some, Option, unwrap_or, refl, sym, ap, ◌∙◌}
 use Rattle.std.specs.List.{fold}
 use Rattle.std.specs.FinMap as finite
-use Rattle.ctl_face.specs.Lasts.{last_at}
-use Rattle.ctl_mail.specs.MailOf.{mail_of}
-use Rattle.ctl_mail.specs.Sent.{newer_local}
-use Rattle.ctl_mail.specs.Told.{told_by}
+use Rattle.ctl_face.specs.Prelude.{last_at}
+use Rattle.ctl_mail.specs.Prelude.{mail_of, newer_local, told_by}
 use Rattle.ctl_mail.proofs.SentActs.{local-after}
 use Rattle.ctl_mail.proofs.arrivals.local_last.Goals as goal
 

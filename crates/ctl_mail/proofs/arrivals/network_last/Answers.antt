@@ -2,12 +2,9 @@ use Rattle.std.proofs.Common.{◌≡◌, ◌≤◌, ℕ, None, Some, Option, Lis
 use Rattle.std.specs.List.{fold}
 use Rattle.std.specs.Option.{option_copied}
 use Rattle.std.specs.FinMap as finite
-use Rattle.ruby_value.specs.Roomy.{Roomy}
-use Rattle.ctl_face.specs.Lasts.{Lasts, last_at, lasts_on}
-use Rattle.ctl_mail.specs.Lasts.{lasts_in}
-use Rattle.ctl_mail.specs.MailOf.{mail_of}
-use Rattle.ctl_mail.specs.Sent.{newer_network}
-use Rattle.ctl_mail.specs.Told.{changed_mail, told_by}
+use Rattle.ruby_value.specs.Prelude.{Roomy}
+use Rattle.ctl_face.specs.Prelude.{Lasts, last_at, lasts_on}
+use Rattle.ctl_mail.specs.Prelude.{lasts_in, mail_of, newer_network, changed_mail, told_by}
 use Rattle.ctl_mail.proofs.Places.{lasts-at, past-lasts, within-lasts}
 use Rattle.ctl_mail.proofs.SentActs.{last-after, length-after, no-lasts-past}
 use Rattle.ctl_mail.proofs.arrivals.network_last.Goals as goal

@@ -3,9 +3,9 @@ use Rattle.std.proofs.lemmas.List.{take_all}
 use Rattle.std.proofs.lemmas.List.Elements.{All-more}
 use Rattle.std.proofs.lemmas.List.Sums.{sum_by_more}
 use Rattle.ruby_value.specs.declared.message.Message.{Message}
-use Rattle.ruby_value.specs.Roomy.{Roomy}
-use Rattle.msg_buffer.specs.Queue.{IsQueue}
-use Rattle.ctl_mail.specs.Queues.{Queues}
+use Rattle.ruby_value.specs.Prelude.{Roomy}
+use Rattle.msg_buffer.specs.Prelude.{IsQueue}
+use Rattle.ctl_mail.specs.Prelude.{Queues}
 use Rattle.ctl_mail.proofs.Counts.{stopped-more}
 use Rattle.ctl_mail.proofs.census.count_buffers.Goals as goal
 

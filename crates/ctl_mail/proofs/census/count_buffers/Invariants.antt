@@ -1,8 +1,8 @@
 use Rattle.std.proofs.Common.{◌≡◌, List, All, count_by, not, sum_by, take}
 use Rattle.ruby_value.specs.declared.message.Message.{Message}
-use Rattle.ruby_value.specs.Roomy.{Roomy}
-use Rattle.msg_buffer.specs.Queue.{IsQueue}
-use Rattle.ctl_mail.specs.Census.{capped}
+use Rattle.ruby_value.specs.Prelude.{Roomy}
+use Rattle.msg_buffer.specs.Prelude.{IsQueue}
+use Rattle.ctl_mail.specs.Prelude.{capped}
 use Rattle.ctl_mail.proofs.census.count_buffers.Given as goal
 
 abbrev pub invariant-loop-queue : goal.invariant-loop-queue

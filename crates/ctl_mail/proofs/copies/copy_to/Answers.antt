@@ -1,16 +1,10 @@
 use Rattle.std.proofs.Common.{◌≡◌, ◌<◌, ◌+◌, ◌*◌, ℕ, true, false, Option, unwrap_or, sym, subst, ap, ◌∙◌, arith}
 use Rattle.ruby_value.specs.declared.message.Delivery.{Delivery}
 use Rattle.ruby_value.specs.declared.message.Message.{Message}
-use Rattle.ctl_face.specs.LocalView.{Actor}
-use Rattle.ctl_face.specs.Lasts.{last_at, lasts_on}
-use Rattle.ctl_face.specs.Routing.{is_ordered, path_to, receiving_buffer}
-use Rattle.ctl_face.specs.Send.{has_jitter, network_arrival}
+use Rattle.ctl_face.specs.Prelude.{Actor, last_at, lasts_on, is_ordered, path_to, receiving_buffer, has_jitter, network_arrival}
 use Rattle.ctl_mail.specs.declared.act.MailAct.TheVariants.{NetworkLast}
 use Rattle.ctl_mail.specs.declared.sent.SendCounts.{SendCounts}
-use Rattle.ctl_mail.specs.MailOf.{mail_of}
-use Rattle.ctl_mail.specs.Sends.{MaySend, actor_of, jitter_at}
-use Rattle.ctl_mail.specs.Sent.{copy_at, told_with_act, told_with_copy}
-use Rattle.ctl_mail.specs.Told.{AreOf, changed_mail, changed_view, told_by}
+use Rattle.ctl_mail.specs.Prelude.{mail_of, MaySend, actor_of, jitter_at, copy_at, told_with_act, told_with_copy, AreOf, changed_mail, changed_view, told_by}
 use Rattle.ctl_mail.proofs.Sending.{are-copied, are-last, are-words, arrival-as, copy-as, later-than, may-copied, may-last, one-as, space-as, view-ordered, view-unordered}
 use Rattle.ctl_mail.proofs.copies.copy_to.Goals as goal
 

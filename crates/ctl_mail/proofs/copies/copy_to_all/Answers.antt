@@ -1,10 +1,7 @@
 use Rattle.std.proofs.Common.{◌≡◌, ◌≤◌, ◌<◌, ◌+◌, ◌*◌, ◌^◌, ◌++◌, ℕ, Some, List, [], ◌∷◌, All, length, length-append, slice_get, refl, sym, subst, ap, ◌∙◌, arith}
 use Rattle.ruby_value.specs.declared.value.Value.{Value}
-use Rattle.ctl_face.specs.LocalView.{Actor}
-use Rattle.ctl_mail.specs.MailOf.{mail_of}
-use Rattle.ctl_mail.specs.Sends.{MaySend, actor_of, members_from, view_with_network_copy}
-use Rattle.ctl_mail.specs.Sent.{HasSpace}
-use Rattle.ctl_mail.specs.Told.{changed_mail, changed_view, told_by}
+use Rattle.ctl_face.specs.Prelude.{Actor}
+use Rattle.ctl_mail.specs.Prelude.{mail_of, MaySend, actor_of, members_from, view_with_network_copy, HasSpace, changed_mail, changed_view, told_by}
 use Rattle.ctl_mail.proofs.Edits.{past-end}
 use Rattle.ctl_mail.proofs.Members.{from-zero, member-holds, next-member, no-longer, no-next, push-parts, rise-from}
 use Rattle.ctl_mail.proofs.Sending.{Progress, all-done, may-fewer, more-progress, no-progress, space-fewer}

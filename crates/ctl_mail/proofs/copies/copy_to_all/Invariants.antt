@@ -1,9 +1,6 @@
 use Rattle.std.proofs.Common.{◌≡◌, ◌+◌, ◌*◌, List, All, length}
 use Rattle.ruby_value.specs.declared.value.Value.{Value}
-use Rattle.ctl_mail.specs.MailOf.{mail_of}
-use Rattle.ctl_mail.specs.Sends.{AreNext, MaySend, actor_of, members_from}
-use Rattle.ctl_mail.specs.Sent.{HasSpace}
-use Rattle.ctl_mail.specs.Told.{AreOf, changed_mail, told_by}
+use Rattle.ctl_mail.specs.Prelude.{mail_of, AreNext, MaySend, actor_of, members_from, HasSpace, AreOf, changed_mail, told_by}
 use Rattle.ctl_mail.proofs.Sending.{Progress}
 use Rattle.ctl_mail.proofs.copies.copy_to_all.Given as goal
 

@@ -1,13 +1,10 @@
 use Rattle.std.proofs.Common.{◌≡◌, ◌<◌, ◌+◌, true, false, refl, sym, subst, ap, ◌∙◌, arith}
 use Rattle.ruby_value.specs.declared.message.Delivery.{Delivery}
 use Rattle.ruby_value.specs.declared.message.Message.{Message}
-use Rattle.ctl_face.specs.Lasts.{last_at}
-use Rattle.ctl_face.specs.Send.{local_arrival}
+use Rattle.ctl_face.specs.Prelude.{last_at, local_arrival}
 use Rattle.ctl_mail.specs.declared.act.MailAct.TheVariants.{LocalLast}
 use Rattle.ctl_mail.specs.declared.sent.SendCounts.{SendCounts}
-use Rattle.ctl_mail.specs.MailOf.{mail_of}
-use Rattle.ctl_mail.specs.Sent.{copy_at, told_with_act, told_with_copy}
-use Rattle.ctl_mail.specs.Told.{AreOf, changed_mail, changed_view, told_by}
+use Rattle.ctl_mail.specs.Prelude.{mail_of, copy_at, told_with_act, told_with_copy, AreOf, changed_mail, changed_view, told_by}
 use Rattle.ctl_mail.proofs.Sending.{are-copied, are-local-last, copy-as, later-than, local-as, view-local-ordered, view-local-unordered}
 use Rattle.ctl_mail.proofs.copies.copy_to_itself.Goals as goal
 

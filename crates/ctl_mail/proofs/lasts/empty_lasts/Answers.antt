@@ -1,8 +1,8 @@
 use Rattle.std.proofs.Common.{◌≡◌, ◌∷◌, ◌++◌, [], All, replicate, length, length-append, sym, subst, ap, ◌∙◌, arith}
 use Rattle.std.proofs.lemmas.List.Elements.{All-push}
 use Rattle.std.specs.FinMap.{empty}
-use Rattle.ruby_value.specs.Roomy.{Roomy}
-use Rattle.ctl_face.specs.Lasts.{Lasts}
+use Rattle.ruby_value.specs.Prelude.{Roomy}
+use Rattle.ctl_face.specs.Prelude.{Lasts}
 use Rattle.ctl_mail.proofs.Edits.{all-no-lasts}
 use Rattle.ctl_mail.proofs.lasts.empty_lasts.Goals as goal
 

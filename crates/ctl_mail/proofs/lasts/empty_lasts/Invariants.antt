@@ -1,7 +1,7 @@
 use Rattle.std.proofs.Common.{◌≡◌, All, length}
 use Rattle.std.specs.FinMap.{empty}
-use Rattle.ruby_value.specs.Roomy.{Roomy}
-use Rattle.ctl_face.specs.Lasts.{Lasts}
+use Rattle.ruby_value.specs.Prelude.{Roomy}
+use Rattle.ctl_face.specs.Prelude.{Lasts}
 use Rattle.ctl_mail.proofs.lasts.empty_lasts.Given as goal
 
 abbrev pub invariant-loop : goal.invariant-loop

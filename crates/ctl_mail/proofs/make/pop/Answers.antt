@@ -1,4 +1,4 @@
-use Rattle.ctl_mail.specs.MailOf.{mail_of}
+use Rattle.ctl_mail.specs.Prelude.{mail_of}
 use Rattle.ctl_mail.proofs.Makes.{after-pop}
 use Rattle.ctl_mail.proofs.make.pop.Goals as goal
 

@@ -1,8 +1,7 @@
 use Rattle.std.proofs.Common.{refl, List, ℕ, ◌≤◌, ◌+◌, sym, subst, ap, ◌∙◌, arith}
 use Rattle.std.specs.List.Sorted.{IsStrictlyIncreasing}
 use Rattle.ctl_face.proofs.Marks.{IsStrictlyIncreasing-with_mark}
-use Rattle.ctl_mail.specs.MailOf.{mail_of}
-use Rattle.ctl_mail.specs.Queues.{room_of}
+use Rattle.ctl_mail.specs.Prelude.{mail_of, room_of}
 use Rattle.ctl_mail.proofs.Makes.{made-put, new-in-queue}
 use Rattle.ctl_mail.proofs.Places.{no-more}
 use Rattle.ctl_mail.proofs.make.put.Goals as goal

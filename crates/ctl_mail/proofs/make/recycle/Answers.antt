@@ -1,5 +1,5 @@
 use Rattle.std.proofs.Common.{sym, ◌∙◌}
-use Rattle.ctl_mail.specs.MailOf.{mail_of}
+use Rattle.ctl_mail.specs.Prelude.{mail_of}
 use Rattle.ctl_mail.proofs.Inboxes.{inbox-ascends}
 use Rattle.ctl_mail.proofs.Makes.{after-recycle}
 use Rattle.ctl_mail.proofs.Places.{loses-more, loses-then}

@@ -1,6 +1,6 @@
 use Rattle.std.proofs.Common.{◌≡◌, ◌<◌, length, subst, ◌∙◌, arith}
 use Rattle.std.specs.List.{All}
-use Rattle.ctl_mail.specs.Room.{HasPlaces}
+use Rattle.ctl_mail.specs.Prelude.{HasPlaces}
 use Rattle.ctl_mail.proofs.Places.{loses-none, places-more}
 use Rattle.ctl_mail.proofs.make.reserve_places.Goals as goal
 

@@ -1,7 +1,6 @@
 use Rattle.std.proofs.Common.{◌≡◌, ◌<◌, ℕ, get_or}
 use Rattle.ctl_mail.specs.declared.act.MailAct.{MailAct}
-use Rattle.ctl_mail.specs.MailOf.{IsMail, buffer_count, mail_of}
-use Rattle.ctl_mail.specs.Room.{HasPlaces, LosesPlaces}
+use Rattle.ctl_mail.specs.Prelude.{IsMail, buffer_count, mail_of, HasPlaces, LosesPlaces}
 use Rattle.ctl_mail.proofs.make.reserve_places.Given as goal
 
 -- the acts before this one have room

@@ -1,9 +1,8 @@
 use Rattle.std.proofs.Common.{◌≡◌, ◌<◌, ℕ, Option, None, Some, IfNone, sym, subst}
 use Rattle.ruby_value.specs.declared.message.Message.{Message}
-use Rattle.ctl_face.specs.Pop.{mail_without}
+use Rattle.ctl_face.specs.Prelude.{mail_without}
 use Rattle.ctl_mail.specs.declared.store.MailStore.{MailStore}
-use Rattle.ctl_mail.specs.MailOf.{IsMail, IsNewIn, buffer_count, mail_of}
-use Rattle.ctl_mail.specs.Queues.{room_of}
+use Rattle.ctl_mail.specs.Prelude.{IsMail, IsNewIn, buffer_count, mail_of, room_of}
 use Rattle.ctl_mail.proofs.Edits.{within-room}
 use Rattle.ctl_mail.proofs.Makes.{either-way, some-both, some-weaker, taken-none, taken-out, taken-value}
 use Rattle.ctl_mail.proofs.make.take.Goals as goal

@@ -1,7 +1,7 @@
 use Rattle.std.proofs.Common.{◌≡◌, ◌<◌, ℕ, Bool, cond, None, Option, true, false, sym, ap, ◌∙◌, take, length, get_or, arith}
-use Rattle.ruby_value.specs.NumberBefore.{same_number}
+use Rattle.ruby_value.specs.Prelude.{same_number}
 use Rattle.ctl_mail.specs.declared.moves.Move.{Move}
-use Rattle.ctl_mail.specs.Moves.{waiting_after}
+use Rattle.ctl_mail.specs.Prelude.{waiting_after}
 use Rattle.ctl_mail.proofs.AfterMoves.{after-nothing, after-take}
 use Rattle.ctl_mail.proofs.moves.waiting_after.Goals as goal
 use Rattle.ctl_mail.proofs.moves.waiting_after.Goals.{then-eq, else-eq}

@@ -1,5 +1,5 @@
 use Rattle.std.proofs.Common.{◌≡◌, take}
-use Rattle.ctl_mail.specs.Moves.{waiting_after}
+use Rattle.ctl_mail.specs.Prelude.{waiting_after}
 use Rattle.ctl_mail.proofs.moves.waiting_after.Given as goal
 
 abbrev pub invariant-loop-m : goal.invariant-loop-m

@@ -1,7 +1,7 @@
 use Rattle.std.proofs.Common.{◌≡◌, ◌∷◌, ◌++◌, List, [], All, length, length-append, sym, subst, ap, arith}
 use Rattle.std.proofs.lemmas.List.Elements.{All-push}
 use Rattle.ruby_value.specs.declared.message.Message.{Message}
-use Rattle.ruby_value.specs.Roomy.{Roomy}
+use Rattle.ruby_value.specs.Prelude.{Roomy}
 use Rattle.ctl_mail.proofs.Edits.{all-empty}
 use Rattle.ctl_mail.proofs.queues.empty_buffers.Goals as goal
 

@@ -1,6 +1,6 @@
 use Rattle.std.proofs.Common.{◌≡◌, List, [], All, length}
 use Rattle.ruby_value.specs.declared.message.Message.{Message}
-use Rattle.ruby_value.specs.Roomy.{Roomy}
+use Rattle.ruby_value.specs.Prelude.{Roomy}
 use Rattle.ctl_mail.proofs.queues.empty_buffers.Given as goal
 
 abbrev pub invariant-loop : goal.invariant-loop

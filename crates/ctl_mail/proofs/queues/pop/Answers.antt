@@ -1,9 +1,9 @@
 use Rattle.std.proofs.Common.{◌≡◌, ◌<◌, ◌≤◌, ◌+◌, ◌∙◌, ℕ, List, Result, Ok, Err, None, Some, IfNone, IfSome, IfOk, OnErr, slice_get, slice_set, refl, sym, ap, arith}
 use Rattle.std.specs.Result.{result_ok}
 use Rattle.ruby_value.specs.declared.message.Message.{Message}
-use Rattle.ruby_value.specs.Roomy.{Roomy}
-use Rattle.msg_buffer.specs.Queue.{front, without_message}
-use Rattle.ctl_mail.specs.Queues.{Queues, Replaces, queue_of, room_of}
+use Rattle.ruby_value.specs.Prelude.{Roomy}
+use Rattle.msg_buffer.specs.Prelude.{front, without_message}
+use Rattle.ctl_mail.specs.Prelude.{Queues, Replaces, queue_of, room_of}
 use Rattle.ctl_mail.proofs.Edits.{past-end, queue-at, queue-none, read-at, read-past, replaces, room-at, rooms, set-here}
 use Rattle.ctl_mail.proofs.queues.pop.Goals as goal
 

@@ -1,7 +1,7 @@
 use Rattle.std.proofs.Common.{◌≡◌, ◌<◌, ◌∙◌, List, None, Some, slice_get, refl, sym, subst, ap, arith}
 use Rattle.ruby_value.specs.declared.message.Message.{Message}
-use Rattle.msg_buffer.specs.Queue.{IsNew, with_message}
-use Rattle.ctl_mail.specs.Queues.{queue_of}
+use Rattle.msg_buffer.specs.Prelude.{IsNew, with_message}
+use Rattle.ctl_mail.specs.Prelude.{queue_of}
 use Rattle.ctl_mail.proofs.Edits.{past-end, queue-at, read-at, read-past, replaces, room-at, room-none, rooms}
 use Rattle.ctl_mail.proofs.queues.put.Goals as goal
 

@@ -1,8 +1,8 @@
 use Rattle.std.proofs.Common.{◌≡◌, ◌⊎◌, ◌≤◌, ◌<◌, ◌+◌, ◌∙◌, ℕ, List, Some, slice_get, slice_set, refl, sym, ⊎_elim, arith}
 use Rattle.std.proofs.Math.ListN.{length-set}
 use Rattle.ruby_value.specs.declared.message.Message.{Message}
-use Rattle.ruby_value.specs.Roomy.{Roomy}
-use Rattle.ctl_mail.specs.Queues.{Queues, queue_of, room_of}
+use Rattle.ruby_value.specs.Prelude.{Roomy}
+use Rattle.ctl_mail.specs.Prelude.{Queues, queue_of, room_of}
 use Rattle.ctl_mail.proofs.Edits.{queue-at, read-at, replaces, room-at, rooms, set-here}
 use Rattle.ctl_mail.proofs.Pops.{replaced-same}
 use Rattle.ctl_mail.proofs.queues.reserve.Goals as goal

@@ -1,5 +1,5 @@
 use Rattle.std.proofs.Common.{◌≡◌, ◌<◌, ◌≤◌, ℕ, length}
-use Rattle.ctl_mail.specs.Queues.{queue_of, room_of}
+use Rattle.ctl_mail.specs.Prelude.{queue_of, room_of}
 use Rattle.ctl_mail.proofs.queues.reserve.Given as goal
 
 -- the messages are as they were, no room is lost, and the buffers before this one have the room

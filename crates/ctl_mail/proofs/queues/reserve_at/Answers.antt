@@ -1,6 +1,6 @@
 use Rattle.std.proofs.Common.{◌≡◌, ◌≤◌, ◌+◌, Some, slice_get, slice_set, refl, sym, ◌∙◌, arith}
 use Rattle.ctl_mail.proofs.Edits.{queue-at, read-at, replaces, room-at, rooms, set-here}
-use Rattle.ctl_mail.specs.Queues.{queue_of, room_of}
+use Rattle.ctl_mail.specs.Prelude.{queue_of, room_of}
 use Rattle.ctl_mail.proofs.Places.{ok-then}
 use Rattle.ctl_mail.proofs.Pops.{replaced-same}
 use Rattle.ctl_mail.proofs.queues.reserve_at.Goals as goal

@@ -2,8 +2,7 @@ use Rattle.std.proofs.Common.{◌<◌, ◌+◌, List, sym, subst, take, length, 
 use Rattle.std.specs.Option.{option_copied}
 use Rattle.std.proofs.lemmas.List.{take_all}
 use Rattle.stall_map.specs.declared.stalled.Stalled.{Stalled}
-use Rattle.ctl_mail.specs.Least.{IsBack, IsLeast}
-use Rattle.ctl_mail.specs.Told.{told_by}
+use Rattle.ctl_mail.specs.Prelude.{IsBack, IsLeast, told_by}
 use Rattle.ctl_mail.proofs.Firsts.{back-more, back-none}
 use Rattle.ctl_mail.proofs.reads.first_back.Goals as goal
 

@@ -1,7 +1,6 @@
 use Rattle.std.proofs.Common.{take}
 use Rattle.std.specs.Option.{option_copied}
-use Rattle.ctl_mail.specs.Least.{IsBack, IsLeast}
-use Rattle.ctl_mail.specs.Told.{told_by}
+use Rattle.ctl_mail.specs.Prelude.{IsBack, IsLeast, told_by}
 use Rattle.ctl_mail.proofs.reads.first_back.Given as goal
 
 abbrev pub invariant-loop-i : goal.invariant-loop-i

@@ -1,7 +1,7 @@
 use Rattle.std.proofs.Common.{◌<◌, Some, sym, subst}
 use Rattle.std.specs.Option.{option_copied}
 use Rattle.ruby_value.specs.declared.message.MsgNo.{MsgNo}
-use Rattle.ctl_mail.specs.Told.{IsOut, told_by}
+use Rattle.ctl_mail.specs.Prelude.{IsOut, told_by}
 use Rattle.ctl_mail.proofs.Fronts.{Reached, falls, reached-front, reached-next, steps_from}
 use Rattle.ctl_mail.proofs.reads.first_left.Goals as goal
 

@@ -1,5 +1,5 @@
 use Rattle.std.specs.Option.{option_copied}
-use Rattle.ctl_mail.specs.Told.{IsOut, told_by}
+use Rattle.ctl_mail.specs.Prelude.{IsOut, told_by}
 use Rattle.ctl_mail.proofs.Fronts.{Reached, steps_from}
 use Rattle.ctl_mail.proofs.reads.first_left.Given as goal
 

@@ -1,8 +1,7 @@
 use Rattle.std.proofs.Common.{◌≡◌, ◌∙◌, List, None, Some, slice_get, refl, sym, subst, ap}
 use Rattle.std.specs.Option.{option_copied}
 use Rattle.ruby_value.specs.declared.message.Message.{Message}
-use Rattle.ctl_mail.specs.Least.{IsLeast, IsLeftIn}
-use Rattle.ctl_mail.specs.Told.{IsOut, told_by}
+use Rattle.ctl_mail.specs.Prelude.{IsLeast, IsLeftIn, IsOut, told_by}
 use Rattle.ctl_mail.proofs.Edits.{queue-at, queue-none}
 use Rattle.ctl_mail.proofs.Fronts.{none-left}
 use Rattle.ctl_mail.proofs.reads.first_of.Goals as goal

@@ -1,9 +1,7 @@
 use Rattle.std.proofs.Common.{◌≡◌, ◌==◌, ◌≤◌, ◌∙◌, [], ℕ, true, length, vec_len, sym, subst, arith}
 use Rattle.std.proofs.lemmas.Bool.Decides.{nat_tests}
 use Rattle.std.specs.Option.{option_copied}
-use Rattle.ctl_mail.specs.Least.{IsBack, IsLeast, IsLeftIn}
-use Rattle.ctl_mail.specs.Queues.{Queues, queue_of}
-use Rattle.ctl_mail.specs.Told.{IsOut, told_by}
+use Rattle.ctl_mail.specs.Prelude.{IsBack, IsLeast, IsLeftIn, Queues, queue_of, IsOut, told_by}
 use Rattle.ctl_mail.proofs.Acts.{none-there}
 use Rattle.ctl_mail.proofs.Firsts.{least-first, least-of-two}
 use Rattle.ctl_mail.proofs.reads.first_ready.Goals as goal

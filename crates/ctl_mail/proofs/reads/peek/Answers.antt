@@ -1,7 +1,6 @@
 use Rattle.std.proofs.Common.{sym}
 use Rattle.std.specs.Option.{option_copied}
-use Rattle.ctl_mail.specs.MailOf.{mail_of}
-use Rattle.ctl_mail.specs.Told.{changed_mail, told_by}
+use Rattle.ctl_mail.specs.Prelude.{mail_of, changed_mail, told_by}
 use Rattle.ctl_mail.proofs.Fronts.{front-either}
 use Rattle.ctl_mail.proofs.reads.peek.Goals as goal
 

@@ -1,6 +1,5 @@
 use Rattle.std.proofs.Common.{◌+◌, Ok, sym, ap, subst, ◌∙◌}
-use Rattle.ctl_mail.specs.MailOf.{mail_of}
-use Rattle.ctl_mail.specs.Told.{AreOf, changed_view, told_by}
+use Rattle.ctl_mail.specs.Prelude.{mail_of, AreOf, changed_view, told_by}
 use Rattle.ctl_mail.proofs.Acts.{are-of-again, does-again}
 use Rattle.ctl_mail.proofs.scan.again.Goals as goal
 

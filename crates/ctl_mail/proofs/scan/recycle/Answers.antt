@@ -1,9 +1,7 @@
 use Rattle.std.proofs.Common.{◌≡◌, ◌<◌, ◌+◌, true, Ok, Some, nat_abs, sym, ap, subst, ◌∙◌, arith}
 use Rattle.std.specs.Option.{option_copied}
-use Rattle.ctl_face.specs.Front.{front}
-use Rattle.ctl_face.specs.Latency.{is_latency}
-use Rattle.ctl_mail.specs.MailOf.{mail_of}
-use Rattle.ctl_mail.specs.Told.{AreOf, Told, changed_mail, changed_view, told_by}
+use Rattle.ctl_face.specs.Prelude.{front, is_latency}
+use Rattle.ctl_mail.specs.Prelude.{mail_of, AreOf, Told, changed_mail, changed_view, told_by}
 use Rattle.ctl_mail.proofs.Acts.{are-of-recycle, does-recycle, told_recycled}
 use Rattle.ctl_mail.proofs.Latencies.{judged}
 use Rattle.ctl_mail.proofs.scan.recycle.Goals as goal

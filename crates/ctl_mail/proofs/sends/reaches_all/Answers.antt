@@ -1,6 +1,6 @@
 use Rattle.std.proofs.Common.{◌≡◌, ◌<◌, ◌≤◌, ◌+◌, ℕ, Bool, Option, Some, [], ◌∷◌, All, is_some, length, slice_get, get_or, sym, ap, ◌∙◌, unwrap_or, arith}
 use Rattle.std.specs.List.{list_all}
-use Rattle.ctl_mail.specs.Sends.{is_routed, members_from}
+use Rattle.ctl_mail.specs.Prelude.{is_routed, members_from}
 use Rattle.ctl_mail.proofs.Members.{all-below, and-first, from-zero, member-holds, next-member, no-next, none-there, one-fails, past-routes, rise-from, some-there}
 use Rattle.ctl_mail.proofs.sends.reaches_all.Goals as goal
 

@@ -1,6 +1,6 @@
 use Rattle.std.proofs.Common.{◌≡◌, ◌≤◌, ◌-◌, ◌^◌, length}
 use Rattle.std.specs.List.{list_all}
-use Rattle.ctl_mail.specs.Sends.{is_routed, members_from}
+use Rattle.ctl_mail.specs.Prelude.{is_routed, members_from}
 use Rattle.ctl_mail.proofs.sends.reaches_all.Given as goal
 
 -- those that are left decide

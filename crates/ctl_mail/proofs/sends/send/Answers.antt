@@ -2,12 +2,8 @@ use Rattle.std.proofs.Common.{◌≡◌, ℕ, Bool, cond, nat_abs, List, [], Opt
 use Rattle.ruby_value.specs.declared.fault.Fault.{Fault}
 use Rattle.ruby_value.specs.declared.fault.Fault.TheVariants.{Latency}
 use Rattle.ruby_value.specs.declared.setup.BufferPlace.TheVariants as place
-use Rattle.ctl_face.specs.LocalView.{Actor}
-use Rattle.ctl_face.specs.Send.{Sending, network_copies, receivers_of, sending_from}
-use Rattle.ctl_mail.specs.MailOf.{mail_of}
-use Rattle.ctl_mail.specs.MailView.{MailDoes}
-use Rattle.ctl_mail.specs.Sends.{actor_of, view_after, view_after_sending}
-use Rattle.ctl_mail.specs.Told.{changed_view, told_by}
+use Rattle.ctl_face.specs.Prelude.{Actor, Sending, network_copies, receivers_of, sending_from}
+use Rattle.ctl_mail.specs.Prelude.{mail_of, MailDoes, actor_of, view_after, view_after_sending, changed_view, told_by}
 use Rattle.ctl_mail.proofs.Latencies.{judged, refused}
 use Rattle.ctl_mail.proofs.Sending.{sends-on}
 use Rattle.ctl_mail.proofs.Untold.{without_memory}

@@ -1,11 +1,7 @@
 use Rattle.std.proofs.Common.{◌≡◌, ◌∙◌, ◌+◌, Ok, false, true, length, nat_lt, refl, sym, ap, arith}
 use Rattle.std.proofs.lemmas.Bool.{le-ltb, lt-ltb}
-use Rattle.ctl_face.specs.LocalView.{Actor}
-use Rattle.ctl_face.specs.Send.{copy_limit}
-use Rattle.ctl_mail.specs.MailOf.{mail_of}
-use Rattle.ctl_mail.specs.Sends.{actor_of, copies_to_all, view_after, view_with_copies}
-use Rattle.ctl_mail.specs.MailView.{MailView}
-use Rattle.ctl_mail.specs.Told.{Told, changed_mail, changed_view, told_by}
+use Rattle.ctl_face.specs.Prelude.{Actor, copy_limit}
+use Rattle.ctl_mail.specs.Prelude.{mail_of, actor_of, copies_to_all, view_after, view_with_copies, MailView, Told, changed_mail, changed_view, told_by}
 use Rattle.ctl_mail.proofs.ToAll.{sent_all, too_many, unrouted}
 use Rattle.ctl_mail.proofs.Untold.{without_memory}
 use Rattle.ctl_mail.proofs.sends.send_to_all.Goals as goal

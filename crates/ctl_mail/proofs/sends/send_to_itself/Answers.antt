@@ -2,11 +2,8 @@ use Rattle.std.proofs.Common.{◌≡◌, ◌+◌, Bool, false, cond, nat_lt, Ok,
 use Rattle.std.proofs.lemmas.Bool.{le-ltb}
 use Rattle.ruby_value.specs.declared.fault.Fault.{Fault}
 use Rattle.ruby_value.specs.declared.fault.Fault.TheVariants.{Copies}
-use Rattle.ctl_face.specs.Send.{Sending, copy_limit, local_copy}
-use Rattle.ctl_mail.specs.MailOf.{mail_of}
-use Rattle.ctl_mail.specs.MailView.{MailView}
-use Rattle.ctl_mail.specs.Sends.{actor_of, view_after_sending, view_with_copies}
-use Rattle.ctl_mail.specs.Told.{Told, changed_mail, changed_view, told_by}
+use Rattle.ctl_face.specs.Prelude.{Sending, copy_limit, local_copy}
+use Rattle.ctl_mail.specs.Prelude.{mail_of, MailView, actor_of, view_after_sending, view_with_copies, Told, changed_mail, changed_view, told_by}
 use Rattle.ctl_mail.proofs.sends.send_to_itself.Goals as goal
 
 pub returns-clause-does : goal.returns-clause-does

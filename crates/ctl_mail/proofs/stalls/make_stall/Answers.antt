@@ -1,8 +1,7 @@
 use Rattle.std.proofs.Common.{◌≡◌, ◌≤◌, ◌<◌, ◌+◌, ap, sym, subst, ◌∙◌, length, List, arith}
-use Rattle.ruby_value.specs.Roomy.{Roomy}
+use Rattle.ruby_value.specs.Prelude.{Roomy}
 use Rattle.stall_map.specs.declared.stalled.Stalled.{Stalled}
-use Rattle.ctl_mail.specs.MailOf.{mail_of}
-use Rattle.ctl_mail.specs.Queues.{room_of}
+use Rattle.ctl_mail.specs.Prelude.{mail_of, room_of}
 use Rattle.ctl_mail.proofs.Inboxes.{inbox-ascends}
 use Rattle.ctl_mail.proofs.Places.{loses-more, no-more}
 use Rattle.ctl_mail.proofs.StallActs.{after-stall, made-stall, new-stalled, one-more}

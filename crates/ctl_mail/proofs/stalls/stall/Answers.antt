@@ -1,8 +1,7 @@
 use Rattle.std.proofs.Common.{◌≡◌, Ok, Some, sym, ap, subst, ◌∙◌}
 use Rattle.std.specs.Option.{option_copied}
-use Rattle.ctl_face.specs.Front.{front}
-use Rattle.ctl_mail.specs.MailOf.{mail_of}
-use Rattle.ctl_mail.specs.Told.{AreOf, Told, changed_mail, changed_view, told_by}
+use Rattle.ctl_face.specs.Prelude.{front}
+use Rattle.ctl_mail.specs.Prelude.{mail_of, AreOf, Told, changed_mail, changed_view, told_by}
 use Rattle.ctl_mail.proofs.StallActs.{are-of-stall, does-stall}
 use Rattle.ctl_mail.proofs.stalls.stall.Goals as goal
 

@@ -1,7 +1,6 @@
 use Rattle.std.proofs.Common.{◌≡◌, true, false}
 use Rattle.ruby_value.specs.declared.message.MsgNo.{MsgNo}
-use Rattle.ctl_mail.specs.Numbers.{Adds, AddsOne}
-use Rattle.ctl_mail.specs.Told.{IsWoken, told_by}
+use Rattle.ctl_mail.specs.Prelude.{Adds, AddsOne, IsWoken, told_by}
 use Rattle.ctl_mail.proofs.Rises.{adds-as, adds-none, on-ok}
 use Rattle.ctl_mail.proofs.wakes.add_if_woken.Goals as goal
 

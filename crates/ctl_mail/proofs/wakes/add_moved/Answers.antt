@@ -1,6 +1,6 @@
 use Rattle.std.proofs.Common.{◌<◌, None, length, arith}
 use Rattle.ctl_mail.specs.declared.moves.Move.{Move}
-use Rattle.ctl_mail.specs.Told.{told_by}
+use Rattle.ctl_mail.specs.Prelude.{told_by}
 use Rattle.ctl_mail.proofs.Founds.{moved-more}
 use Rattle.ctl_mail.proofs.wakes.add_moved.Goals as goal
 

@@ -1,6 +1,5 @@
 use Rattle.std.proofs.Common.{take}
-use Rattle.ctl_mail.specs.Numbers.{Adds}
-use Rattle.ctl_mail.specs.Told.{IsWokenMoved, told_by}
+use Rattle.ctl_mail.specs.Prelude.{Adds, IsWokenMoved, told_by}
 use Rattle.ctl_mail.proofs.wakes.add_moved.Given as goal
 
 abbrev pub invariant-loop-m : goal.invariant-loop-m

@@ -1,5 +1,5 @@
 use Rattle.std.proofs.Common.{◌<◌, length, arith}
-use Rattle.ctl_mail.specs.Told.{told_by}
+use Rattle.ctl_mail.specs.Prelude.{told_by}
 use Rattle.ctl_mail.proofs.Founds.{stalled-more}
 use Rattle.ctl_mail.proofs.wakes.add_stalled.Goals as goal
 

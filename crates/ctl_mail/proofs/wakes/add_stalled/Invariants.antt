@@ -1,6 +1,5 @@
 use Rattle.std.proofs.Common.{take}
-use Rattle.ctl_mail.specs.Numbers.{Adds}
-use Rattle.ctl_mail.specs.Told.{IsWokenStalled, told_by}
+use Rattle.ctl_mail.specs.Prelude.{Adds, IsWokenStalled, told_by}
 use Rattle.ctl_mail.proofs.wakes.add_stalled.Given as goal
 
 abbrev pub invariant-loop-i : goal.invariant-loop-i

@@ -1,5 +1,5 @@
 use Rattle.std.proofs.Common.{◌≡◌, ◌++◌, ◌≤◌, ◌+◌, take, vec_len, vec_capacity}
-use Rattle.ctl_mail.specs.Moves.{moves_back}
+use Rattle.ctl_mail.specs.Prelude.{moves_back}
 use Rattle.ctl_mail.proofs.wakes.push_back_moves.Given as goal
 
 abbrev pub invariant-loop-number : goal.invariant-loop-number

@@ -1,7 +1,6 @@
 use Rattle.std.proofs.Common.{◌≡◌, Ok, List, sym, ap, subst, ◌∙◌}
 use Rattle.ruby_value.specs.declared.message.MsgNo.{MsgNo}
-use Rattle.ctl_mail.specs.MailOf.{mail_of}
-use Rattle.ctl_mail.specs.Told.{AreOf, changed_view, told_by}
+use Rattle.ctl_mail.specs.Prelude.{mail_of, AreOf, changed_view, told_by}
 use Rattle.ctl_mail.proofs.WakeActs.{are-of-wake, does-wake, told_woken}
 use Rattle.ctl_mail.proofs.wakes.wake_those.Goals as goal
 

@@ -1,8 +1,7 @@
 use Rattle.std.proofs.Common.{[], List, subst}
 use Rattle.ruby_value.specs.declared.message.MsgNo.{MsgNo}
 use Rattle.ctl_mail.specs.declared.moves.Move.{Move}
-use Rattle.ctl_mail.specs.Numbers.{Adds}
-use Rattle.ctl_mail.specs.Told.{IsWokenMoved, IsWokenStalled, told_by}
+use Rattle.ctl_mail.specs.Prelude.{Adds, IsWokenMoved, IsWokenStalled, told_by}
 use Rattle.ctl_mail.proofs.Rises.{adds-both}
 use Rattle.ctl_mail.proofs.wakes.woken.Goals as goal
 

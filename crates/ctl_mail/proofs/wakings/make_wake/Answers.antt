@@ -1,8 +1,8 @@
 use Rattle.std.proofs.Common.{◌≡◌, ◌⊎◌, ◌↔◌, ◌≤◌, ◌+◌, ℕ, List, sym, subst, ap, ◌∙◌, length, All, Contains, arith}
 use Rattle.ruby_value.specs.declared.message.Message.{Message}
-use Rattle.stall_map.specs.Stalls.{messages_under, without_line}
-use Rattle.msg_buffer.specs.Queue.{IsNew}
-use Rattle.ctl_mail.specs.Queues.{queue_of, room_of}
+use Rattle.stall_map.specs.Prelude.{messages_under, without_line}
+use Rattle.msg_buffer.specs.Prelude.{IsNew}
+use Rattle.ctl_mail.specs.Prelude.{queue_of, room_of}
 use Rattle.ctl_mail.proofs.Backs.{Apart}
 use Rattle.ctl_mail.proofs.Places.{no-more}
 use Rattle.ctl_mail.proofs.WakeMakes.{made-wake, new-in-home, room-at-home, under-apart, under-count}

@@ -1,8 +1,7 @@
 use Rattle.std.proofs.Common.{◌<◌, ℕ, is_some, sym, ap, subst, ◌∙◌, length, arith}
-use Rattle.ctl_face.specs.Ctl.{InboxMessage, Mail}
-use Rattle.ctl_face.specs.Wake.{woken_mail}
-use Rattle.stall_map.specs.Stalls.{without_line}
-use Rattle.ctl_mail.specs.MailOf.{mail_of}
+use Rattle.ctl_face.specs.Prelude.{InboxMessage, Mail, woken_mail}
+use Rattle.stall_map.specs.Prelude.{without_line}
+use Rattle.ctl_mail.specs.Prelude.{mail_of}
 use Rattle.ctl_mail.proofs.Places.{loses-none}
 use Rattle.ctl_mail.proofs.WakeMakes.{all-after-line, fewer, none-waits}
 use Rattle.ctl_mail.proofs.wakings.make_wake_all.Goals as goal

@@ -1,8 +1,6 @@
 use Rattle.std.proofs.Common.{◌≡◌, ◌≤◌, is_some, length}
-use Rattle.ctl_face.specs.Ctl.{InboxMessage}
-use Rattle.ctl_face.specs.Wake.{woken_mail}
-use Rattle.ctl_mail.specs.MailOf.{IsMail, buffer_count, mail_of}
-use Rattle.ctl_mail.specs.Room.{HasPlacesToWake, LosesPlaces, mark_room}
+use Rattle.ctl_face.specs.Prelude.{InboxMessage, woken_mail}
+use Rattle.ctl_mail.specs.Prelude.{IsMail, buffer_count, mail_of, HasPlacesToWake, LosesPlaces, mark_room}
 use Rattle.ctl_mail.proofs.wakings.make_wake_all.Given as goal
 
 -- with all woken that still wait it is the mail with all woken

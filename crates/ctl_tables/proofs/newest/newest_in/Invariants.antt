@@ -1,6 +1,6 @@
 use Rattle.std.proofs.Common.{◌≡◌, reverse, take}
 use Rattle.std.specs.List.{find}
-use Rattle.ctl_tables.specs.Told.{tells}
+use Rattle.ctl_tables.specs.Prelude.{tells}
 use Rattle.ctl_tables.proofs.newest.newest_in.Given as goal
 
 abbrev pub invariant-loop-i : goal.invariant-loop-i

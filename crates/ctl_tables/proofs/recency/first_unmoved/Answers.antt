@@ -1,8 +1,8 @@
 use Rattle.std.proofs.Common.{◌≤◌, ◌+◌, ◌∙◌, Some, ap, arith, cond, drop, length, sym}
 use Rattle.std.specs.List.{find}
 use Rattle.ruby_value.proofs.CacheSets.{set_lines}
-use Rattle.ruby_value.specs.SetOf.{set_of}
-use Rattle.ctl_tables.specs.Recency.{numbers_of, stays_in}
+use Rattle.ruby_value.specs.Prelude.{set_of}
+use Rattle.ctl_tables.specs.Prelude.{numbers_of, stays_in}
 use Rattle.ctl_tables.proofs.Recent.{found_end, found_here, found_none}
 use Rattle.ctl_tables.proofs.recency.first_unmoved.Goals as goal
 

@@ -1,7 +1,7 @@
 use Rattle.std.proofs.Common.{◌≡◌, drop}
 use Rattle.std.specs.List.{find}
-use Rattle.ruby_value.specs.SetOf.{set_of}
-use Rattle.ctl_tables.specs.Recency.{numbers_of, stays_in}
+use Rattle.ruby_value.specs.Prelude.{set_of}
+use Rattle.ctl_tables.specs.Prelude.{numbers_of, stays_in}
 use Rattle.ctl_tables.proofs.recency.first_unmoved.Given as goal
 
 abbrev pub invariant-loop-i : goal.invariant-loop-i

@@ -1,7 +1,6 @@
 use Rattle.std.proofs.Common.{◌≡◌, Some, drop}
-use Rattle.ctl_face.specs.Table.{CacheTable}
-use Rattle.ctl_tables.specs.Frames.{frame_of}
-use Rattle.ctl_tables.specs.Recency.{first_used}
+use Rattle.ctl_face.specs.Prelude.{CacheTable}
+use Rattle.ctl_tables.specs.Prelude.{frame_of, first_used}
 use Rattle.ctl_tables.proofs.recency.first_used.Given as goal
 
 abbrev pub invariant-loop-i : goal.invariant-loop-i

@@ -1,8 +1,7 @@
 use Rattle.std.proofs.Common.{◌∙◌, ℕ, Option, Some, ap, sym}
-use Rattle.ruby_value.specs.SetOf.{set_of}
-use Rattle.ctl_face.specs.Table.{CacheTable}
-use Rattle.ctl_tables.specs.Frames.{frame_of}
-use Rattle.ctl_tables.specs.Recency.{first_used, numbers_of}
+use Rattle.ruby_value.specs.Prelude.{set_of}
+use Rattle.ctl_face.specs.Prelude.{CacheTable}
+use Rattle.ctl_tables.specs.Prelude.{frame_of, first_used, numbers_of}
 use Rattle.ctl_tables.proofs.Recent.{least_is}
 use Rattle.ctl_tables.proofs.Stays.{kept_or}
 use Rattle.ctl_tables.proofs.recency.least_used.Goals as goal

@@ -1,5 +1,5 @@
 use Rattle.std.proofs.Common.{◌≡◌, ◌+◌, ◌∙◌, ℕ, [], All, arith, map, rules, subst, sym, vec_len}
-use Rattle.ctl_tables.specs.Container.{table_of, HasRoom}
+use Rattle.ctl_tables.specs.Prelude.{table_of, HasRoom}
 use Rattle.ctl_tables.proofs.Replaying.{nothing_made, oldest_first}
 use Rattle.ctl_tables.proofs.tables.change_all.Goals as goal
 

@@ -1,6 +1,5 @@
 use Rattle.std.proofs.Common.{◌≡◌, All, map, vec_len}
-use Rattle.ctl_tables.specs.After.{after_changes}
-use Rattle.ctl_tables.specs.Container.{table_of, HasRoom}
+use Rattle.ctl_tables.specs.Prelude.{after_changes, table_of, HasRoom}
 use Rattle.ctl_tables.proofs.tables.change_all.Given as goal
 
 -- the first one is the tables after all that is left

@@ -1,7 +1,7 @@
 use Rattle.std.proofs.Common.{◌≡◌, map, take}
 use Rattle.ruby_value.specs.declared.setup.TableSetup.{TableSetup}
-use Rattle.ctl_face.specs.Opening.{opening_table}
-use Rattle.ctl_tables.specs.Container.{table_of}
+use Rattle.ctl_face.specs.Prelude.{opening_table}
+use Rattle.ctl_tables.specs.Prelude.{table_of}
 use Rattle.ctl_tables.proofs.tables.open_all.Given as goal
 
 abbrev pub invariant-loop-setup : goal.invariant-loop-setup

@@ -1,5 +1,5 @@
 use Rattle.std.proofs.Common.{◌≡◌, All, map, take}
-use Rattle.ctl_tables.specs.Container.{table_of, HasRoom}
+use Rattle.ctl_tables.specs.Prelude.{table_of, HasRoom}
 use Rattle.ctl_tables.proofs.tables.reserve_all.Given as goal
 
 abbrev pub invariant-loop-i : goal.invariant-loop-i

@@ -1,7 +1,7 @@
 use Rattle.std.proofs.Common.{◌∙◌}
-use Rattle.slicc_plan.specs.Declarations.{machine_names}
-use Rattle.declared_types.specs.Lent.{type_of}
-use Rattle.declaration_rules.specs.Members.{members_in}
+use Rattle.slicc_plan.specs.Prelude.{machine_names}
+use Rattle.declared_types.specs.Prelude.{type_of}
+use Rattle.declaration_rules.specs.Prelude.{members_in}
 use Rattle.declaration_rules.proofs.DefaultNames.{machine_so, not_machine}
 use Rattle.declaration_rules.proofs.members.is_machine_default.Goals as goal
 

@@ -1,6 +1,6 @@
 use Rattle.std.proofs.Common.{◌≡◌, ◌<◌, ◌^◌, drop, option_and_then}
-use Rattle.slicc_plan.specs.Attributes.{number_in_range}
-use Rattle.declaration_rules.specs.Numbers.{read_from}
+use Rattle.slicc_plan.specs.Prelude.{number_in_range}
+use Rattle.declaration_rules.specs.Prelude.{read_from}
 use Rattle.declaration_rules.proofs.numbers.read_digits.Given as goal
 
 abbrev pub invariant-loop-c : goal.invariant-loop-c

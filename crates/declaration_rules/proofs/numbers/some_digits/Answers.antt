@@ -1,5 +1,5 @@
 use Rattle.std.proofs.Common.{ap, ◌∙◌, arith, option_and_then}
-use Rattle.slicc_plan.specs.Attributes.{number_in_range}
+use Rattle.slicc_plan.specs.Prelude.{number_in_range}
 use Rattle.declaration_rules.proofs.Digits.{read_some}
 use Rattle.declaration_rules.proofs.numbers.some_digits.Goals as goal
 

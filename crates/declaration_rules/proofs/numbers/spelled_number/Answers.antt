@@ -1,5 +1,5 @@
 use Rattle.std.proofs.Common.{ap, sym, ◌∙◌, option_and_then}
-use Rattle.slicc_plan.specs.Attributes.{number_in_range}
+use Rattle.slicc_plan.specs.Prelude.{number_in_range}
 use Rattle.declaration_rules.proofs.Digits.{spelled_decimal, spelled_hexadecimal}
 use Rattle.declaration_rules.proofs.numbers.spelled_number.Goals as goal
 

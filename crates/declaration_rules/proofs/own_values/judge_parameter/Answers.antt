@@ -1,6 +1,6 @@
 use Rattle.std.specs.Option.{option_map}
-use Rattle.slicc_plan.specs.Values.{bad_literal, bad_object_attributes}
-use Rattle.declared_types.specs.Lent.{type_of}
+use Rattle.slicc_plan.specs.Prelude.{bad_literal, bad_object_attributes}
+use Rattle.declared_types.specs.Prelude.{type_of}
 use Rattle.declaration_rules.proofs.Steps.{one_list_before}
 use Rattle.declaration_rules.proofs.own_values.judge_parameter.Goals as goal
 

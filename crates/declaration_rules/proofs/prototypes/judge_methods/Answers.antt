@@ -1,5 +1,4 @@
-use Rattle.slicc_plan.specs.Declarations.{machine_names}
-use Rattle.slicc_plan.specs.Prototypes.{unknown_method}
+use Rattle.slicc_plan.specs.Prelude.{machine_names, unknown_method}
 use Rattle.declaration_rules.proofs.Steps.{one_step}
 use Rattle.declaration_rules.proofs.prototypes.judge_methods.Goals as goal
 

@@ -1,5 +1,4 @@
-use Rattle.declared_types.specs.Lent.{declaration_of}
-use Rattle.declared_types.specs.Scopes.{scope_at}
+use Rattle.declared_types.specs.Prelude.{declaration_of, scope_at}
 use Rattle.declaration_rules.proofs.Steps.{one_more}
 use Rattle.declaration_rules.proofs.rule.first_in_scope.Goals as goal
 

@@ -1,7 +1,6 @@
 use Rattle.std.proofs.Common.{◌≡◌, take, flat_map}
-use Rattle.slicc_plan.specs.Order.{first_after}
-use Rattle.declared_types.specs.Lent.{declarations_of}
-use Rattle.declared_types.specs.Scopes.{scope_at}
+use Rattle.slicc_plan.specs.Prelude.{first_after}
+use Rattle.declared_types.specs.Prelude.{declarations_of, scope_at}
 use Rattle.declaration_rules.proofs.rule.first_in_scope.Given as goal
 
 abbrev pub invariant-loop-d : goal.invariant-loop-d

@@ -1,9 +1,8 @@
 use Rattle.std.proofs.Common.{ap, ◌∙◌, sym, arith}
-use Rattle.slicc_plan.specs.Declarations.{everywhere, wide_scopes}
+use Rattle.slicc_plan.specs.Prelude.{everywhere, wide_scopes, first_after}
 use Rattle.slicc_plan.proofs.Firsts.{first_after-flat_map}
-use Rattle.slicc_plan.specs.Order.{first_after}
-use Rattle.declared_types.specs.Scopes.{scope_at}
-use Rattle.declaration_rules.specs.Judging.{broken_in}
+use Rattle.declared_types.specs.Prelude.{scope_at}
+use Rattle.declaration_rules.specs.Prelude.{broken_in}
 use Rattle.declaration_rules.proofs.rule.first_in_scopes.Goals as goal
 
 pub loop-number-preserved : goal.loop-number-preserved

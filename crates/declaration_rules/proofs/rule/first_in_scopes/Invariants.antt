@@ -1,7 +1,6 @@
 use Rattle.std.proofs.Common.{◌≡◌, take, flat_map}
-use Rattle.slicc_plan.specs.Declarations.{wide_scopes}
-use Rattle.slicc_plan.specs.Order.{first_after}
-use Rattle.declaration_rules.specs.Judging.{broken_in}
+use Rattle.slicc_plan.specs.Prelude.{wide_scopes, first_after}
+use Rattle.declaration_rules.specs.Prelude.{broken_in}
 use Rattle.declaration_rules.proofs.rule.first_in_scopes.Given as goal
 
 abbrev pub invariant-loop-number : goal.invariant-loop-number

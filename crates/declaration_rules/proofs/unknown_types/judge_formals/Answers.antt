@@ -1,5 +1,5 @@
-use Rattle.slicc_plan.specs.UnknownTypes.{formal_use, unknown_use}
-use Rattle.declared_types.specs.Scopes.{scope_at}
+use Rattle.slicc_plan.specs.Prelude.{formal_use, unknown_use}
+use Rattle.declared_types.specs.Prelude.{scope_at}
 use Rattle.declaration_rules.proofs.Steps.{one_more}
 use Rattle.declaration_rules.proofs.unknown_types.judge_formals.Goals as goal
 

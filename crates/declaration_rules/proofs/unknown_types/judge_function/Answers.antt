@@ -1,8 +1,7 @@
 use Rattle.std.proofs.Common.{ap, map, ◌∙◌}
-use Rattle.slicc_plan.specs.Order.{first_after}
-use Rattle.slicc_plan.specs.UnknownTypes.{formal_use, formal_uses, has_no_body, unknown_use, use_of}
-use Rattle.declared_types.specs.Scopes.{scope_at}
-use Rattle.declaration_rules.specs.Judging.{unknown_uses}
+use Rattle.slicc_plan.specs.Prelude.{first_after, formal_use, formal_uses, has_no_body, unknown_use, use_of}
+use Rattle.declared_types.specs.Prelude.{scope_at}
+use Rattle.declaration_rules.specs.Prelude.{unknown_uses}
 use Rattle.declaration_rules.proofs.Steps.{none_told, one_before}
 use Rattle.declaration_rules.proofs.unknown_types.judge_function.Goals as goal
 

@@ -1,5 +1,5 @@
-use Rattle.slicc_plan.specs.UnknownTypes.{member_uses, unknown_use}
-use Rattle.declared_types.specs.Scopes.{scope_at}
+use Rattle.slicc_plan.specs.Prelude.{member_uses, unknown_use}
+use Rattle.declared_types.specs.Prelude.{scope_at}
 use Rattle.declaration_rules.proofs.Steps.{one_more_nested}
 use Rattle.declaration_rules.proofs.unknown_types.judge_members.Goals as goal
 

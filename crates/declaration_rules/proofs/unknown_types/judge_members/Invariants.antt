@@ -1,8 +1,7 @@
 use Rattle.std.proofs.Common.{◌≡◌, take, flat_map}
-use Rattle.slicc_plan.specs.Order.{first_after}
-use Rattle.slicc_plan.specs.UnknownTypes.{member_uses}
-use Rattle.declared_types.specs.Scopes.{scope_at}
-use Rattle.declaration_rules.specs.Judging.{unknown_uses}
+use Rattle.slicc_plan.specs.Prelude.{first_after, member_uses}
+use Rattle.declared_types.specs.Prelude.{scope_at}
+use Rattle.declaration_rules.specs.Prelude.{unknown_uses}
 use Rattle.declaration_rules.proofs.unknown_types.judge_members.Given as goal
 
 abbrev pub invariant-loop-m : goal.invariant-loop-m

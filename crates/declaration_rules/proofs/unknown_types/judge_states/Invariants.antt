@@ -1,8 +1,7 @@
 use Rattle.std.proofs.Common.{◌≡◌, take, map}
-use Rattle.slicc_plan.specs.Order.{first_after}
-use Rattle.slicc_plan.specs.UnknownTypes.{state_use}
-use Rattle.declared_types.specs.Scopes.{scope_at}
-use Rattle.declaration_rules.specs.Judging.{unknown_uses}
+use Rattle.slicc_plan.specs.Prelude.{first_after, state_use}
+use Rattle.declared_types.specs.Prelude.{scope_at}
+use Rattle.declaration_rules.specs.Prelude.{unknown_uses}
 use Rattle.declaration_rules.proofs.unknown_types.judge_states.Given as goal
 
 abbrev pub invariant-loop-s : goal.invariant-loop-s

@@ -1,5 +1,5 @@
 use Rattle.std.proofs.Common.{codes}
-use Rattle.slicc_plan.specs.Values.{bad_attributes, is_either, is_number_within}
+use Rattle.slicc_plan.specs.Prelude.{bad_attributes, is_either, is_number_within}
 use Rattle.std.proofs.Common.{◌++◌}
 use Rattle.declaration_rules.proofs.Steps.{one_list_before}
 use Rattle.declaration_rules.proofs.values.judge_buffer.Goals as goal

@@ -1,10 +1,8 @@
 use Rattle.std.proofs.Common.{◌∙◌, ap, [], cond}
 use Rattle.std.specs.Option.{option_map}
 use Rattle.slicc_plan.specs.declared.built_in.BuiltInType.TheVariants.{Buffer, TbeTable}
-use Rattle.slicc_plan.specs.Order.{first_after}
-use Rattle.slicc_plan.specs.Types.{is_built_in}
-use Rattle.slicc_plan.specs.Values.{bad_buffer_attributes, bad_entries}
-use Rattle.declared_types.specs.Lent.{type_of}
+use Rattle.slicc_plan.specs.Prelude.{first_after, is_built_in, bad_buffer_attributes, bad_entries}
+use Rattle.declared_types.specs.Prelude.{type_of}
 use Rattle.declaration_rules.proofs.Steps.{one_list_before}
 use Rattle.declaration_rules.proofs.values.judge_object_attributes.Goals as goal
 

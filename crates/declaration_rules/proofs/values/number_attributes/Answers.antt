@@ -1,8 +1,7 @@
 use Rattle.std.proofs.Common.{◌∙◌, ap, flat_map}
 use Rattle.std.proofs.lemmas.List.{take_all}
-use Rattle.slicc_plan.specs.Order.{first_after}
-use Rattle.slicc_plan.specs.Values.{is_number_within}
-use Rattle.declaration_rules.specs.PairValues.{bad_pair}
+use Rattle.slicc_plan.specs.Prelude.{first_after, is_number_within}
+use Rattle.declaration_rules.specs.Prelude.{bad_pair}
 use Rattle.declaration_rules.proofs.EachPair.{by_each_pair}
 use Rattle.declaration_rules.proofs.Steps.{one_step}
 use Rattle.declaration_rules.proofs.values.number_attributes.Goals as goal

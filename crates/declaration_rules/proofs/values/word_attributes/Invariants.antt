@@ -1,7 +1,6 @@
 use Rattle.std.proofs.Common.{◌≡◌, take, flat_map}
-use Rattle.slicc_plan.specs.Order.{first_after}
-use Rattle.slicc_plan.specs.Values.{is_either}
-use Rattle.declaration_rules.specs.PairValues.{bad_pair}
+use Rattle.slicc_plan.specs.Prelude.{first_after, is_either}
+use Rattle.declaration_rules.specs.Prelude.{bad_pair}
 use Rattle.declaration_rules.proofs.values.word_attributes.Given as goal
 
 abbrev pub invariant-loop-p : goal.invariant-loop-p

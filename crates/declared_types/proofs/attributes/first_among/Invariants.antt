@@ -1,5 +1,5 @@
 use Rattle.std.proofs.Common.{◌≡◌, drop, filter_map, slice_get}
-use Rattle.slicc_plan.specs.Attributes.{attribute_in}
+use Rattle.slicc_plan.specs.Prelude.{attribute_in}
 use Rattle.declared_types.proofs.attributes.first_among.Given as goal
 
 abbrev pub invariant-loop-p : goal.invariant-loop-p

@@ -1,5 +1,5 @@
 use Rattle.std.proofs.Common.{◌≡◌, drop, map}
-use Rattle.declared_types.specs.Types.{meaning_in, named_of}
+use Rattle.declared_types.specs.Prelude.{meaning_in, named_of}
 use Rattle.declared_types.proofs.built_in_types.meaning_among.Given as goal
 
 abbrev pub invariant-loop-t : goal.invariant-loop-t

@@ -1,8 +1,8 @@
 use Rattle.std.proofs.Common.{◌≡◌, drop, map}
 use Rattle.std.specs.List.{list_any}
 use Rattle.std.specs.Str.{bytes_eq}
-use Rattle.slicc_plan.specs.BuiltInCalls.{Call}
-use Rattle.declared_types.specs.Calls.{call_of}
+use Rattle.slicc_plan.specs.Prelude.{Call}
+use Rattle.declared_types.specs.Prelude.{call_of}
 use Rattle.declared_types.proofs.calls.has_call.Given as goal
 
 abbrev pub invariant-loop-c : goal.invariant-loop-c

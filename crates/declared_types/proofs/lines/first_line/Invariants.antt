@@ -1,7 +1,6 @@
 use Rattle.std.proofs.Common.{◌≡◌, drop, find, flat_map}
-use Rattle.slicc_plan.specs.Machines.{structure_in}
-use Rattle.declared_types.specs.Lent.{declarations_of}
-use Rattle.declared_types.specs.LineSorts.{is_of_sort}
+use Rattle.slicc_plan.specs.Prelude.{structure_in}
+use Rattle.declared_types.specs.Prelude.{declarations_of, is_of_sort}
 use Rattle.declared_types.proofs.lines.first_line.Given as goal
 
 abbrev pub invariant-loop-d : goal.invariant-loop-d

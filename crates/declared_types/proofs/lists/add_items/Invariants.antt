@@ -1,6 +1,6 @@
 use Rattle.std.proofs.Common.{◌≡◌, ◌++◌, take, flat_map}
-use Rattle.slicc_plan.specs.Declarations.{item_declarations}
-use Rattle.declared_types.specs.Lent.{declarations_of}
+use Rattle.slicc_plan.specs.Prelude.{item_declarations}
+use Rattle.declared_types.specs.Prelude.{declarations_of}
 use Rattle.declared_types.proofs.lists.add_items.Given as goal
 
 abbrev pub invariant-loop-item : goal.invariant-loop-item

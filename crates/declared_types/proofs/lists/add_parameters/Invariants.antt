@@ -1,6 +1,6 @@
 use Rattle.std.proofs.Common.{◌≡◌, ◌++◌, take, map}
-use Rattle.slicc_plan.specs.Declarations.{parameter}
-use Rattle.declared_types.specs.Lent.{declarations_of}
+use Rattle.slicc_plan.specs.Prelude.{parameter}
+use Rattle.declared_types.specs.Prelude.{declarations_of}
 use Rattle.declared_types.proofs.lists.add_parameters.Given as goal
 
 abbrev pub invariant-loop-p : goal.invariant-loop-p

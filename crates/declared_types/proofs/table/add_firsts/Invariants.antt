@@ -1,6 +1,6 @@
 use Rattle.std.proofs.Common.{◌≡◌, take, length}
 use Rattle.declared_types.specs.Lent.{texts_of}
-use Rattle.declared_types.specs.Table.{IsIndexed}
+use Rattle.declared_types.specs.Prelude.{IsIndexed}
 use Rattle.declared_types.proofs.table.add_firsts.Given as goal
 
 abbrev pub invariant-loop-number : goal.invariant-loop-number

@@ -1,8 +1,7 @@
 use Rattle.std.proofs.Common.{◌≡◌, OnOk, Result, Ok, Err, List, [], ◌∷◌, ◌++◌, sym, ap, ◌∙◌}
 use Rattle.std.proofs.lemmas.List.{map-append}
 use Rattle.ruby_base.specs.declared.memory.NoMemory.{NoMemory}
-use Rattle.declared_types.specs.Lent.{declarations_of, scope_of}
-use Rattle.declared_types.specs.Scopes.{machine_table, summaries, summary}
+use Rattle.declared_types.specs.Prelude.{declarations_of, scope_of, machine_table, summaries, summary}
 use Rattle.declared_types.proofs.tables.add_machine.Goals as goal
 
 follows : {A : Type 0} {P Q : Type 0} (r : Result A NoMemory) → (P → Q) → OnOk r P → OnOk r Q

@@ -1,7 +1,6 @@
 use Rattle.std.proofs.Common.{◌≡◌, ◌++◌, flat_map, map, take}
-use Rattle.slicc_plan.specs.Declarations.{machine_in}
-use Rattle.declared_types.specs.Lent.{declarations_of}
-use Rattle.declared_types.specs.Scopes.{machine_table, summaries}
+use Rattle.slicc_plan.specs.Prelude.{machine_in}
+use Rattle.declared_types.specs.Prelude.{declarations_of, machine_table, summaries}
 use Rattle.declared_types.proofs.tables.add_machines.Given as goal
 
 abbrev pub invariant-loop-d : goal.invariant-loop-d

@@ -1,5 +1,5 @@
 use Rattle.std.proofs.Common.{ap}
-use Rattle.declared_types.specs.Lent.{declarations_of, scope_of}
+use Rattle.declared_types.specs.Prelude.{declarations_of, scope_of}
 use Rattle.declared_types.proofs.ScopeTables.{machines_added, tables_right}
 use Rattle.declared_types.proofs.tables.all_tables.Goals as goal
 

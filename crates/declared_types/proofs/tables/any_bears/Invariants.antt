@@ -1,6 +1,6 @@
 use Rattle.std.proofs.Common.{◌≡◌, drop}
 use Rattle.std.specs.List.{list_any}
-use Rattle.declared_types.specs.Scopes.{ScopeTable, is_machine_named, summaries}
+use Rattle.declared_types.specs.Prelude.{ScopeTable, is_machine_named, summaries}
 use Rattle.declared_types.proofs.tables.any_bears.Given as goal
 
 abbrev pub invariant-loop-t : goal.invariant-loop-t

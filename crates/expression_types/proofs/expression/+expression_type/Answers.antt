@@ -2,16 +2,10 @@ use Rattle.std.proofs.Common.{rules, ◌≡◌, ◌∙◌, ap, sym, refl}
 use Rattle.std.proofs.lemmas.Result.{IfOk-weaker}
 use Rattle.slicc_ast.specs.declared.tree.expression.Expr.TheViews.{the_lemmas}
 use Rattle.slicc_ast.specs.declared.tree.expression.Operand.{Operand}
-use Rattle.slicc_plan.specs.CallTypes.{index_call, method_call, named_call}
-use Rattle.slicc_plan.specs.Environment.{type_named}
-use Rattle.slicc_plan.specs.declared.built_in.BuiltInType.TheVariants.{Int, Bool as Boolean}
-use Rattle.slicc_plan.specs.ExpressionTypes.{cast_to, from_operand, given_at, joined, span_of, suffix_typed, typed}
-use Rattle.slicc_plan.specs.Meanings.{any_line, of_built_in}
-use Rattle.body_types.specs.Environments.{environment_of}
-use Rattle.body_types.specs.Found.{all_given_of, found_of, given_of, typed_of}
-use Rattle.body_types.specs.Views.{wanted_of}
-use Rattle.expression_types.specs.Known.{all_known}
-use Rattle.expression_types.specs.Lists.{all_arguments, all_operands, all_suffixes}
+use Rattle.slicc_plan.specs.Prelude.{index_call, method_call, named_call, type_named, cast_to, from_operand, given_at, joined, span_of, suffix_typed, typed, any_line, of_built_in}
+use Rattle.slicc_plan.specs.declared.built_in.BuiltInType.TheVariants.{Int, Bool}
+use Rattle.body_types.specs.Prelude.{environment_of, all_given_of, found_of, given_of, typed_of, wanted_of}
+use Rattle.expression_types.specs.Prelude.{all_known, all_arguments, all_operands, all_suffixes}
 use Rattle.expression_types.proofs.Boxes.{typed_of_Call, typed_of_Cast, typed_of_Group, typed_of_IsInvalid, typed_of_IsValid, typed_of_Negate, typed_of_Not, typed_of_Operation, typed_of_Postfix}
 use Rattle.expression_types.proofs.Rows.{arguments_of_row}
 use Rattle.expression_types.proofs.Steps.{arguments_step, at_part, call_found, cast_found, from_same, index_found, method_found, operand_found, operands_step, operation_found, postfix_found, suffixes_step}
@@ -32,11 +26,11 @@ typed-returns-in-Not t c =
     let env = environment_of c.args.env in
     let v = c.in-Not.operand in
     let w = c.get.result.now in
-    let same : typed env c.args.e.now ≡ from_operand env (of_built_in Boolean) Boolean (given_at (span_of v) (typed env v)) =
+    let same : typed env c.args.e.now ≡ from_operand env (of_built_in Bool) Bool (given_at (span_of v) (typed env v)) =
     ap (typed env) c.in-Not.is ∙ typed_of_Not env v c.in-Not.field-1 in
     IfOk-weaker c.alone.result _ _
-    (λ r told. at_part env (λ x. from_operand env (of_built_in Boolean) Boolean (given_at (span_of x) (typed env x))) c.args.e.now v w (typed_of r) same c.get.ensures
-    (told ∙ ap (λ o. found_of (from_operand env o Boolean (given_at (span_of w) (typed env w)))) c.of_built_in.ensures))
+    (λ r told. at_part env (λ x. from_operand env (of_built_in Bool) Bool (given_at (span_of x) (typed env x))) c.args.e.now v w (typed_of r) same c.get.ensures
+    (told ∙ ap (λ o. found_of (from_operand env o Bool (given_at (span_of w) (typed env w)))) c.of_built_in.ensures))
     c.alone.ensures
 
 pub typed-returns-in-Negate : goal.typed-returns-in-Negate
@@ -90,10 +84,10 @@ pub typed-returns-in-IsValid : goal.typed-returns-in-IsValid
 typed-returns-in-IsValid t c =
     let env = environment_of c.args.env in
     let v = c.in-IsValid.operand in
-    let same : typed env c.args.e.now ≡ from_operand env any_line Boolean (given_at (span_of v) (typed env v)) =
+    let same : typed env c.args.e.now ≡ from_operand env any_line Bool (given_at (span_of v) (typed env v)) =
     search (rules, the_lemmas, typed_of_IsValid, typed_of_IsInvalid) in
     IfOk-weaker c.alone-in-IsValid.result _ _
-    (λ r told. at_part env (λ x. from_operand env any_line Boolean (given_at (span_of x) (typed env x))) c.args.e.now v c.get-in-IsValid.result.now (typed_of r) same c.get-in-IsValid.ensures told)
+    (λ r told. at_part env (λ x. from_operand env any_line Bool (given_at (span_of x) (typed env x))) c.args.e.now v c.get-in-IsValid.result.now (typed_of r) same c.get-in-IsValid.ensures told)
     c.alone-in-IsValid.ensures
 
 pub typed-returns-in-Cast : goal.typed-returns-in-Cast

@@ -1,9 +1,7 @@
 use Rattle.std.proofs.Common.{◌≡◌, drop, take}
-use Rattle.slicc_plan.specs.ExpressionTypes.{span_of}
-use Rattle.body_types.specs.Environments.{environment_of}
-use Rattle.body_types.specs.Found.{all_given_of, found_of, typed_of}
-use Rattle.expression_types.specs.Known.{all_known}
-use Rattle.expression_types.specs.Lists.{all_arguments, all_operands, all_suffixes}
+use Rattle.slicc_plan.specs.Prelude.{span_of}
+use Rattle.body_types.specs.Prelude.{environment_of, all_given_of, found_of, typed_of}
+use Rattle.expression_types.specs.Prelude.{all_known, all_arguments, all_operands, all_suffixes}
 use Rattle.expression_types.proofs.expression.+expression_type.Given as goal
 
 abbrev pub invariant-operands-loop-o : goal.invariant-operands-loop-o

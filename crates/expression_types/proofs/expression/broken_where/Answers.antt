@@ -1,5 +1,4 @@
-use Rattle.body_types.specs.Environments.{environment_of}
-use Rattle.body_types.specs.Views.{wanted_of}
+use Rattle.body_types.specs.Prelude.{environment_of, wanted_of}
 use Rattle.expression_types.proofs.Firsts.{where_by_firsts}
 use Rattle.expression_types.proofs.expression.broken_where.Goals as goal
 

@@ -2,10 +2,7 @@ use Rattle.std.proofs.Common.{◌∙◌, ap, find, sym}
 use Rattle.std.specs.Option.{option_map}
 use Rattle.std.specs.Str.{bytes_eq}
 use Rattle.slicc_plan.specs.declared.built_in.BuiltInType.{BuiltInType}
-use Rattle.slicc_plan.specs.BuiltIn.{NamedType, request_fields}
-use Rattle.slicc_plan.specs.ExpressionTypes.{built_in_field}
-use Rattle.slicc_plan.specs.Meanings.{value}
-use Rattle.slicc_plan.specs.Types.{built_in}
+use Rattle.slicc_plan.specs.Prelude.{NamedType, request_fields, built_in_field, value, built_in}
 use Rattle.expression_types.proofs.Requests.{mapped}
 use Rattle.expression_types.proofs.fields.built_in_field.Goals as goal
 

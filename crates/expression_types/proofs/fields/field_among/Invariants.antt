@@ -1,5 +1,5 @@
 use Rattle.std.proofs.Common.{◌≡◌, drop, map, find}
-use Rattle.declared_types.specs.Types.{meaning_in, named_of}
+use Rattle.declared_types.specs.Prelude.{meaning_in, named_of}
 use Rattle.expression_types.proofs.fields.field_among.Given as goal
 
 abbrev pub invariant-loop-f : goal.invariant-loop-f

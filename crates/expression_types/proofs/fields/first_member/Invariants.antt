@@ -1,5 +1,5 @@
 use Rattle.std.proofs.Common.{◌≡◌, drop, map, find}
-use Rattle.slicc_plan.specs.Declarations.{first_named, member}
+use Rattle.slicc_plan.specs.Prelude.{first_named, member}
 use Rattle.expression_types.proofs.fields.first_member.Given as goal
 
 abbrev pub invariant-loop-m : goal.invariant-loop-m

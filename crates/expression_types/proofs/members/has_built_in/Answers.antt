@@ -1,6 +1,5 @@
 use Rattle.std.proofs.Common.{◌∙◌, ap, sym}
-use Rattle.slicc_plan.specs.BuiltIn.{is_among}
-use Rattle.slicc_plan.specs.Declarations.{machine_names}
+use Rattle.slicc_plan.specs.Prelude.{is_among, machine_names}
 use Rattle.expression_types.proofs.Fixed.{among_texts, members_fixed}
 use Rattle.expression_types.proofs.members.has_built_in.Goals as goal
 

@@ -1,8 +1,8 @@
 use Rattle.std.proofs.Common.{◌+◌, ◌<◌, ◌||◌, ◌∙◌, ap, arith, drop, length, sym}
 use Rattle.std.specs.List.{flat_map, list_any}
-use Rattle.slicc_plan.specs.Declarations.{everywhere, wide_scopes}
-use Rattle.call_types.specs.Called.{machines_in}
-use Rattle.expression_types.specs.Known.{is_called}
+use Rattle.slicc_plan.specs.Prelude.{everywhere, wide_scopes}
+use Rattle.call_types.specs.Prelude.{machines_in}
+use Rattle.expression_types.specs.Prelude.{is_called}
 use Rattle.expression_types.proofs.Machines.{among_machines, not_here}
 use Rattle.expression_types.proofs.members.has_machine.Goals as goal
 

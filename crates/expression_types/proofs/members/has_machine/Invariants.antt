@@ -1,9 +1,8 @@
 use Rattle.std.proofs.Common.{◌≡◌, drop, map, find}
 use Rattle.std.specs.List.{flat_map, list_any}
-use Rattle.slicc_plan.specs.BuiltIn.{is_among}
-use Rattle.slicc_plan.specs.Declarations.{machine_names, wide_scopes}
-use Rattle.call_types.specs.Called.{machines_in}
-use Rattle.expression_types.specs.Known.{is_called}
+use Rattle.slicc_plan.specs.Prelude.{is_among, machine_names, wide_scopes}
+use Rattle.call_types.specs.Prelude.{machines_in}
+use Rattle.expression_types.specs.Prelude.{is_called}
 use Rattle.expression_types.proofs.members.has_machine.Given as goal
 
 abbrev pub invariant-loop-number : goal.invariant-loop-number

@@ -1,6 +1,6 @@
 use Rattle.std.proofs.Common.{◌≡◌, drop, map, find}
 use Rattle.slicc_ast.specs.declared.tree.declaration.State.{State}
-use Rattle.slicc_plan.specs.BuiltIn.{is_among}
+use Rattle.slicc_plan.specs.Prelude.{is_among}
 use Rattle.expression_types.proofs.members.has_state.Given as goal
 
 abbrev pub invariant-loop-s : goal.invariant-loop-s

@@ -1,6 +1,4 @@
-use Rattle.body_types.specs.Environments.{environment_of}
-use Rattle.body_types.specs.Found.{typed_of}
-use Rattle.body_types.specs.Views.{wanted_of}
+use Rattle.body_types.specs.Prelude.{environment_of, typed_of, wanted_of}
 use Rattle.expression_types.proofs.Firsts.{joined_by_firsts}
 use Rattle.expression_types.proofs.operators.joined.Goals as goal
 

@@ -1,8 +1,7 @@
 use Rattle.std.proofs.Common.{◌≡◌, drop, map}
 use Rattle.std.specs.List.{list_any}
-use Rattle.slicc_plan.specs.Buffers.{BufferIn}
-use Rattle.slicc_plan.specs.Networks.{are_from_one}
-use Rattle.machine_rules.specs.Ports.{buffer_seen, place_seen}
+use Rattle.slicc_plan.specs.Prelude.{BufferIn, are_from_one}
+use Rattle.machine_table.specs.Prelude.{buffer_seen, place_seen}
 use Rattle.machine_rules.proofs.network_rules.any_from_one.Given as goal
 
 abbrev pub invariant-loop-a : goal.invariant-loop-a

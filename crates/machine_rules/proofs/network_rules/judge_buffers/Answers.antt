@@ -1,10 +1,8 @@
 use Rattle.std.proofs.Common.{[], ◌∷◌, cond, refl, ap, map, ◌∙◌}
 use Rattle.std.specs.List.{list_any}
 use Rattle.std.proofs.lemmas.List.{take_all}
-use Rattle.slicc_plan.specs.Buffers.{BufferIn}
-use Rattle.slicc_plan.specs.Networks.{are_from_one, doubled_after, networks_broken}
-use Rattle.slicc_plan.specs.Order.{first_after}
-use Rattle.machine_rules.specs.Ports.{buffer_seen}
+use Rattle.slicc_plan.specs.Prelude.{BufferIn, are_from_one, doubled_after, networks_broken, first_after}
+use Rattle.machine_table.specs.Prelude.{buffer_seen}
 use Rattle.machine_rules.proofs.Walks.{walk_step}
 use Rattle.machine_rules.proofs.network_rules.judge_buffers.Goals as goal
 

@@ -1,9 +1,8 @@
 use Rattle.std.proofs.Common.{[], refl, ap, map, ◌∙◌}
 use Rattle.std.specs.List.{list_any}
 use Rattle.std.proofs.lemmas.List.{take_all}
-use Rattle.slicc_plan.specs.Networks.{differ, differing_after, port_broken}
-use Rattle.slicc_plan.specs.Order.{first_after}
-use Rattle.machine_rules.specs.Ports.{port_seen}
+use Rattle.slicc_plan.specs.Prelude.{differ, differing_after, port_broken, first_after}
+use Rattle.machine_table.specs.Prelude.{port_seen}
 use Rattle.machine_rules.proofs.Walks.{walk_step}
 use Rattle.machine_rules.proofs.network_rules.judge_types.Goals as goal
 

@@ -1,7 +1,6 @@
 use Rattle.std.proofs.Common.{◌≡◌, [], map, take}
-use Rattle.slicc_plan.specs.Networks.{differing_after}
-use Rattle.slicc_plan.specs.Order.{first_after}
-use Rattle.machine_rules.specs.Ports.{port_seen}
+use Rattle.slicc_plan.specs.Prelude.{differing_after, first_after}
+use Rattle.machine_table.specs.Prelude.{port_seen}
 use Rattle.machine_rules.proofs.network_rules.judge_types.Given as goal
 
 abbrev pub invariant-loop-k : goal.invariant-loop-k

@@ -1,6 +1,5 @@
 use Rattle.std.proofs.Common.{◌++◌, []}
-use Rattle.slicc_plan.specs.Machines.{in_each}
-use Rattle.slicc_plan.specs.Networks.{all_ports, differing_after, doubled_in, wrong_ports_in}
+use Rattle.slicc_plan.specs.Prelude.{in_each, all_ports, differing_after, doubled_in, wrong_ports_in}
 use Rattle.declaration_rules.proofs.Steps.{one_list_before}
 use Rattle.machine_rules.proofs.Walks.{told_last}
 use Rattle.machine_rules.proofs.network_rules.networks.Goals as goal

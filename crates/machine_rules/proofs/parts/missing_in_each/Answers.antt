@@ -1,8 +1,6 @@
 use Rattle.std.proofs.Common.{map, ap, ◌∙◌}
 use Rattle.std.proofs.lemmas.List.{take_all}
-use Rattle.slicc_plan.specs.MachineParts.{missing_parts_in}
-use Rattle.slicc_plan.specs.Machines.{in_each_from}
-use Rattle.slicc_plan.specs.Order.{first_after}
+use Rattle.slicc_plan.specs.Prelude.{missing_parts_in, in_each_from, first_after}
 use Rattle.machine_table.proofs.TablesOfMachines.{found_step}
 use Rattle.machine_rules.proofs.parts.missing_in_each.Goals as goal
 

@@ -1,7 +1,5 @@
 use Rattle.std.proofs.Common.{◌≡◌, map, take}
-use Rattle.slicc_plan.specs.MachineParts.{missing_parts_in}
-use Rattle.slicc_plan.specs.Machines.{in_each_from}
-use Rattle.slicc_plan.specs.Order.{first_after}
+use Rattle.slicc_plan.specs.Prelude.{missing_parts_in, in_each_from, first_after}
 use Rattle.machine_rules.proofs.parts.missing_in_each.Given as goal
 
 abbrev pub invariant-loop-place : goal.invariant-loop-place

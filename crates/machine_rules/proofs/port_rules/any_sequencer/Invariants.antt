@@ -1,7 +1,7 @@
 use Rattle.std.proofs.Common.{◌≡◌, drop}
 use Rattle.std.specs.List.{list_any}
-use Rattle.slicc_plan.specs.Limits.{is_sequencer}
-use Rattle.declared_types.specs.Lent.{declarations_of}
+use Rattle.slicc_plan.specs.Prelude.{is_sequencer}
+use Rattle.declared_types.specs.Prelude.{declarations_of}
 use Rattle.machine_rules.proofs.port_rules.any_sequencer.Given as goal
 
 abbrev pub invariant-loop-d : goal.invariant-loop-d

@@ -1,10 +1,10 @@
 use Rattle.std.proofs.Common.{◌∙◌, ap, sym, flat_map}
 use Rattle.std.proofs.lemmas.List.{take_all}
 use Rattle.slicc_plan.specs.Buffers.{port_in}
-use Rattle.slicc_plan.specs.Order.{first_after}
-use Rattle.declared_types.specs.Lent.{declaration_of, declarations_of}
+use Rattle.slicc_plan.specs.Prelude.{first_after}
+use Rattle.declared_types.specs.Prelude.{declaration_of, declarations_of}
 use Rattle.declaration_rules.proofs.Steps.{flat_map-flat_map, one_more}
-use Rattle.machine_rules.specs.Ports.{wrong_port}
+use Rattle.machine_rules.specs.Prelude.{wrong_port}
 use Rattle.machine_rules.proofs.port_rules.judge_declarations.Goals as goal
 
 pub loop-d-preserved : goal.loop-d-preserved

@@ -1,8 +1,8 @@
 use Rattle.std.proofs.Common.{◌≡◌, flat_map, take}
 use Rattle.slicc_plan.specs.Buffers.{port_in}
-use Rattle.slicc_plan.specs.Order.{first_after}
-use Rattle.declared_types.specs.Lent.{declarations_of}
-use Rattle.machine_rules.specs.Ports.{wrong_port}
+use Rattle.slicc_plan.specs.Prelude.{first_after}
+use Rattle.declared_types.specs.Prelude.{declarations_of}
+use Rattle.machine_rules.specs.Prelude.{wrong_port}
 use Rattle.machine_rules.proofs.port_rules.judge_declarations.Given as goal
 
 abbrev pub invariant-loop-d : goal.invariant-loop-d

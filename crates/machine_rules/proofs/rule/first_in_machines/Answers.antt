@@ -1,7 +1,5 @@
 use Rattle.std.proofs.Common.{◌∙◌, ap, arith}
-use Rattle.slicc_plan.specs.Declarations.{machines_of}
-use Rattle.slicc_plan.specs.Machines.{in_each_from}
-use Rattle.slicc_plan.specs.Order.{first_after}
+use Rattle.slicc_plan.specs.Prelude.{machines_of, in_each_from, first_after}
 use Rattle.machine_rules.proofs.Scopes.{all_scopes, one_scope}
 use Rattle.machine_rules.proofs.rule.first_in_machines.Goals as goal
 

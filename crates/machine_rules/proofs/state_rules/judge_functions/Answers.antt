@@ -1,9 +1,8 @@
 use Rattle.std.proofs.Common.{◌++◌, codes, ap, ◌∙◌}
 use Rattle.std.specs.Option.{option_copied}
 use Rattle.slicc_plan.specs.declared.built_in.BuiltInType.TheVariants.{Void}
-use Rattle.slicc_plan.specs.Machines.{function_named}
-use Rattle.slicc_plan.specs.Order.{first_after}
-use Rattle.slicc_plan.specs.StateFunctions.{alone, built_in_type, own_state, taken_to_permit, taken_to_read, taken_to_write, unlike}
+use Rattle.slicc_plan.specs.Prelude.{function_named, first_after, alone, own_state, taken_to_permit, taken_to_read, taken_to_write, unlike}
+use Rattle.slicc_plan.specs.StateFunctions.{built_in_type}
 use Rattle.declaration_rules.proofs.Steps.{one_list_before}
 use Rattle.machine_rules.proofs.state_rules.judge_functions.Goals as goal
 

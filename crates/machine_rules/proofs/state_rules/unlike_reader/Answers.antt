@@ -1,7 +1,6 @@
 use Rattle.std.proofs.Common.{ap, ◌∙◌}
 use Rattle.std.specs.Option.{option_copied}
-use Rattle.slicc_plan.specs.Order.{first_after}
-use Rattle.slicc_plan.specs.StateFunctions.{line_where, own_state, unlike}
+use Rattle.slicc_plan.specs.Prelude.{first_after, line_where, own_state, unlike}
 use Rattle.machine_rules.proofs.Taken.{read_taken}
 use Rattle.machine_rules.proofs.state_rules.unlike_reader.Goals as goal
 

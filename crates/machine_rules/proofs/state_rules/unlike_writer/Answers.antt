@@ -1,8 +1,8 @@
 use Rattle.std.proofs.Common.{ap, ◌∙◌}
 use Rattle.std.specs.Option.{option_copied}
 use Rattle.slicc_plan.specs.declared.built_in.BuiltInType.TheVariants.{Void}
-use Rattle.slicc_plan.specs.Order.{first_after}
-use Rattle.slicc_plan.specs.StateFunctions.{line_where, built_in_type, unlike}
+use Rattle.slicc_plan.specs.Prelude.{first_after, line_where, unlike}
+use Rattle.slicc_plan.specs.StateFunctions.{built_in_type}
 use Rattle.machine_rules.proofs.Taken.{written_taken}
 use Rattle.machine_rules.proofs.state_rules.unlike_writer.Goals as goal
 

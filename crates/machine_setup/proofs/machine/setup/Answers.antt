@@ -3,7 +3,7 @@ use Rattle.std.specs.Prelude.{slice_get}
 use Rattle.std.specs.Option.{option_map}
 use Rattle.ruby_symbols.specs.declared.machine.MachineSymbols.{MachineSymbols}
 use Rattle.ruby_symbols.specs.declared.symbols.Symbols.{Symbols}
-use Rattle.machine_setup.specs.BySymbols.{setup_by}
+use Rattle.machine_setup.specs.Prelude.{setup_by}
 use Rattle.machine_setup.proofs.BySymbols.{of_number}
 use Rattle.machine_setup.proofs.machine.setup.Goals as goal
 

@@ -1,6 +1,5 @@
 use Rattle.std.proofs.Common.{◌≡◌, ◌+◌, ℕ, cond, is_some, arith, ap, sym, ◌∙◌}
-use Rattle.machine_table.specs.Answers.{answer}
-use Rattle.machine_table.specs.Sums.{answered_in}
+use Rattle.machine_table.specs.Prelude.{answer, answered_in}
 use Rattle.machine_table.proofs.Summing.{sum_below}
 use Rattle.machine_table.proofs.counting.answered.Goals as goal
 

@@ -1,5 +1,5 @@
 use Rattle.std.proofs.Common.{◌≡◌, ◌≤◌}
-use Rattle.machine_table.specs.Sums.{answered_in}
+use Rattle.machine_table.specs.Prelude.{answered_in}
 use Rattle.machine_table.proofs.counting.answered.Given as goal
 
 abbrev pub invariant-loop-event : goal.invariant-loop-event

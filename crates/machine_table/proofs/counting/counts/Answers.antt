@@ -1,8 +1,7 @@
 use Rattle.std.proofs.Common.{◌≡◌, ℕ, map, slice_get, subst, ap, sym, ◌∙◌}
 use Rattle.slicc_plan.specs.Buffers.{listed}
-use Rattle.slicc_plan.specs.Declarations.{machines_of}
-use Rattle.machine_table.specs.Answers.{answer}
-use Rattle.machine_table.specs.TablesOf.{rows_of_found}
+use Rattle.slicc_plan.specs.Prelude.{machines_of}
+use Rattle.machine_table.specs.Prelude.{answer, rows_of_found}
 use Rattle.machine_table.proofs.counting.counts.Goals as goal
 
 pub counts_in-requires : goal.counts_in-requires

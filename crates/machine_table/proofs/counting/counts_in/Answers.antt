@@ -1,8 +1,7 @@
 use Rattle.std.proofs.Common.{◌≡◌, map, ap, sym, ◌∙◌}
 use Rattle.std.proofs.lemmas.List.{take_all}
 use Rattle.slicc_plan.specs.Buffers.{listed}
-use Rattle.machine_table.specs.Answers.{answer}
-use Rattle.machine_table.specs.Sums.{sums_of}
+use Rattle.machine_table.specs.Prelude.{answer, sums_of}
 use Rattle.machine_table.proofs.Summing.{rows_found, sums_step}
 use Rattle.machine_table.proofs.counting.counts_in.Goals as goal
 

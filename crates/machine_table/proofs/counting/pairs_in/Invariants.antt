@@ -1,6 +1,6 @@
 use Rattle.std.proofs.Common.{◌≡◌, ◌≤◌, ◌*◌, sum_by}
-use Rattle.slicc_plan.specs.Counts.{numbers_below}
-use Rattle.machine_table.specs.Sums.{answered_in}
+use Rattle.slicc_plan.specs.Prelude.{numbers_below}
+use Rattle.machine_table.specs.Prelude.{answered_in}
 use Rattle.machine_table.proofs.counting.pairs_in.Given as goal
 
 abbrev pub invariant-loop-state : goal.invariant-loop-state

@@ -1,6 +1,5 @@
 use Rattle.std.proofs.Common.{◌≡◌, ◌+◌, length, ap, ◌∙◌}
-use Rattle.slicc_plan.specs.Counts.{pairs_of}
-use Rattle.slicc_plan.specs.Limits.{event_members, state_members}
+use Rattle.slicc_plan.specs.Prelude.{pairs_of, event_members, state_members}
 use Rattle.machine_table.proofs.Summing.{pairs_answered}
 use Rattle.machine_table.proofs.counting.with_machine.Goals as goal
 

@@ -1,10 +1,9 @@
 use Rattle.std.proofs.Common.{◌≡◌, Err, None, Some, List, [], Option, subst, sym, ap, ◌∙◌, unwrap_or}
 use Rattle.slicc_plan.specs.declared.broken.Broken.{Broken}
-use Rattle.slicc_plan.specs.Order.{IsFirstBroken, IsFirstOf, first_after}
-use Rattle.slicc_plan.specs.TwoTransitions.{shared_pairs}
+use Rattle.slicc_plan.specs.Prelude.{IsFirstBroken, IsFirstOf, first_after, shared_pairs}
 use Rattle.slicc_plan.proofs.Firsts.{first_after_none}
 use Rattle.machine_table.specs.declared.table.TableFault.TheVariants.{Duplicate}
-use Rattle.machine_table.specs.Built.{IsBuilt, tables, shared, no_memory}
+use Rattle.machine_table.specs.Prelude.{IsBuilt, tables, shared, no_memory}
 use Rattle.machine_table.proofs.making.build_of_trees.Goals as goal
 
 nothing_found : (all : List Broken) (o : Option Broken) → o ≡ first_after None all → o ≡ None → all ≡ []

@@ -1,10 +1,8 @@
 use Rattle.std.proofs.Common.{◌≡◌, ℕ, [], length, map, option_and_then, slice_get, take}
 use Rattle.slicc_plan.specs.Buffers.{listed}
-use Rattle.slicc_plan.specs.Machines.{in_each_from}
-use Rattle.slicc_plan.specs.Order.{first_after}
-use Rattle.slicc_plan.specs.TwoTransitions.{shared_pairs_in}
-use Rattle.pair_table.specs.Tables.{answer_of}
-use Rattle.machine_table.specs.TablesOf.{rows_of_found}
+use Rattle.slicc_plan.specs.Prelude.{in_each_from, first_after, shared_pairs_in}
+use Rattle.pair_table.specs.Prelude.{answer_of}
+use Rattle.machine_table.specs.Prelude.{rows_of_found}
 use Rattle.machine_table.proofs.making.tables_of.Given as goal
 
 abbrev pub invariant-loop-place : goal.invariant-loop-place

@@ -1,8 +1,8 @@
 use Rattle.std.proofs.Common.{◌≡◌, None, Some, arith, ap, sym, ◌∙◌, bytes_eq, cond, flat_map, length, position}
 use Rattle.std.specs.Option.{option_or}
 use Rattle.std.proofs.lemmas.List.{take_all}
-use Rattle.slicc_plan.specs.Declarations.{is_named, named_declarations}
-use Rattle.machine_table.specs.Found.{actions_among, found_by}
+use Rattle.slicc_plan.specs.Prelude.{is_named, named_declarations}
+use Rattle.machine_table.specs.Prelude.{actions_among, found_by}
 use Rattle.machine_table.proofs.Behind.{actions_behind}
 use Rattle.machine_table.proofs.NumbersOfNames.{action_added, action_counted, action_skipped}
 use Rattle.machine_table.proofs.numbers.action_numbers.Goals as goal

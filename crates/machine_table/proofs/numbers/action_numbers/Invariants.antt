@@ -1,6 +1,6 @@
 use Rattle.std.proofs.Common.{◌≡◌, ℕ, List, ◌≤◌, length, position, take}
-use Rattle.slicc_plan.specs.Declarations.{is_named}
-use Rattle.machine_table.specs.Found.{actions_among, found_by}
+use Rattle.slicc_plan.specs.Prelude.{is_named}
+use Rattle.machine_table.specs.Prelude.{actions_among, found_by}
 use Rattle.machine_table.proofs.numbers.action_numbers.Given as goal
 
 abbrev pub invariant-loop-d : goal.invariant-loop-d

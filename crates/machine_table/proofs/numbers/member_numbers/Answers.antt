@@ -1,8 +1,8 @@
 use Rattle.std.proofs.Common.{◌≡◌, ap, map, position, bytes_eq, cond, Some, None, ◌∙◌}
 use Rattle.std.specs.Option.{option_or}
 use Rattle.std.proofs.lemmas.List.{take_all}
-use Rattle.slicc_plan.specs.Declarations.{is_named}
-use Rattle.machine_table.specs.Found.{found_by}
+use Rattle.slicc_plan.specs.Prelude.{is_named}
+use Rattle.machine_table.specs.Prelude.{found_by}
 use Rattle.machine_table.proofs.NumbersOfNames.{member_step}
 use Rattle.machine_table.proofs.numbers.member_numbers.Goals as goal
 

@@ -1,6 +1,6 @@
 use Rattle.std.proofs.Common.{◌≡◌, ℕ, List, map, position, take, length}
-use Rattle.slicc_plan.specs.Declarations.{is_named}
-use Rattle.machine_table.specs.Found.{found_by}
+use Rattle.slicc_plan.specs.Prelude.{is_named}
+use Rattle.machine_table.specs.Prelude.{found_by}
 use Rattle.machine_table.proofs.numbers.member_numbers.Given as goal
 
 abbrev pub invariant-loop-number : goal.invariant-loop-number

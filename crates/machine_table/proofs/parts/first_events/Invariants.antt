@@ -1,6 +1,5 @@
 use Rattle.std.proofs.Common.{◌≡◌, find, flat_map, length}
-use Rattle.slicc_plan.specs.Declarations.{named_declarations}
-use Rattle.slicc_plan.specs.Limits.{is_events}
+use Rattle.slicc_plan.specs.Prelude.{named_declarations, is_events}
 use Rattle.machine_table.proofs.parts.first_events.Given as goal
 
 abbrev pub invariant-loop-rest : goal.invariant-loop-rest

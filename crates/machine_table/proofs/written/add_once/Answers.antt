@@ -1,6 +1,6 @@
 use Rattle.std.proofs.Common.{◌≡◌, ◌++◌, ◌∷◌, [], ap, cond, false, sym, ◌∙◌}
 use Rattle.std.proofs.lemmas.Result.{on_ok_weaker}
-use Rattle.slicc_plan.specs.Machines.{includes}
+use Rattle.slicc_plan.specs.Prelude.{includes}
 use Rattle.machine_table.proofs.written.add_once.Goals as goal
 
 pub returns : goal.returns

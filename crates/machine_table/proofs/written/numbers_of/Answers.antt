@@ -1,5 +1,5 @@
 use Rattle.std.proofs.Common.{rules}
-use Rattle.machine_table.specs.Found.{found_by, found_name}
+use Rattle.machine_table.specs.Prelude.{found_by, found_name}
 use Rattle.machine_table.proofs.NumbersOfNames.{filter_step}
 use Rattle.machine_table.proofs.written.numbers_of.Goals as goal
 

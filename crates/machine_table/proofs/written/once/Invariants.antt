@@ -1,5 +1,5 @@
 use Rattle.std.proofs.Common.{◌≡◌, [], fold, take}
-use Rattle.slicc_plan.specs.Machines.{with_number}
+use Rattle.slicc_plan.specs.Prelude.{with_number}
 use Rattle.machine_table.proofs.written.once.Given as goal
 
 abbrev pub invariant-loop-number : goal.invariant-loop-number

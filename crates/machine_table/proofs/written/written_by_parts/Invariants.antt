@@ -1,6 +1,6 @@
 use Rattle.std.proofs.Common.{◌≡◌, flat_map, map, take}
-use Rattle.slicc_plan.specs.Machines.{transition_in}
-use Rattle.machine_table.specs.Found.{written_with}
+use Rattle.slicc_plan.specs.Prelude.{transition_in}
+use Rattle.machine_table.specs.Prelude.{written_with}
 use Rattle.machine_table.proofs.written.written_by_parts.Given as goal
 
 abbrev pub invariant-loop-d : goal.invariant-loop-d

@@ -1,7 +1,7 @@
 use Rattle.std.proofs.Common.{◌≡◌, ◌-◌, ◌<◌, false, length, sym, subst, ◌∙◌, arith}
 use Rattle.std.proofs.lemmas.List.{get_or_read}
 use Rattle.ruby_value.specs.declared.message.Message.{Message}
-use Rattle.msg_buffer.specs.Queue.{comes_before}
+use Rattle.msg_buffer.specs.Prelude.{comes_before}
 use Rattle.msg_buffer.proofs.Placed.{placed}
 use Rattle.msg_buffer.proofs.Queues.{place}
 use Rattle.msg_buffer.proofs.buffer.place_of.Goals as goal

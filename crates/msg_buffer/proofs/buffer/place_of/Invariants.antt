@@ -1,6 +1,6 @@
 use Rattle.std.proofs.Common.{◌≡◌, ◌<◌, ◌≤◌, ℕ, true, length, get_or}
 use Rattle.ruby_value.specs.declared.message.Message.{Message}
-use Rattle.msg_buffer.specs.Queue.{comes_before}
+use Rattle.msg_buffer.specs.Prelude.{comes_before}
 use Rattle.msg_buffer.proofs.buffer.place_of.Given as goal
 
 -- each message from the place on comes after the new one

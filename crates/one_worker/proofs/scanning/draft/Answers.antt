@@ -1,9 +1,8 @@
 use Rattle.std.proofs.Common.{false, Some}
-use Rattle.protocol_runs.specs.World.{Place}
-use Rattle.ctl_face.specs.Ctl.{Ctl}
-use Rattle.protocol_meaning.specs.Meaning.{meaning_of}
-use Rattle.world_events.specs.Held.{ctl_in}
-use Rattle.world_events.specs.Worlds.{setting_in}
+use Rattle.protocol_runs.specs.Prelude.{Place}
+use Rattle.ctl_face.specs.Prelude.{Ctl}
+use Rattle.protocol_meaning.specs.Prelude.{meaning_of}
+use Rattle.world_events.specs.Prelude.{ctl_in, setting_in}
 use Rattle.one_worker.proofs.HeldScans.{in-time, may-begin, may-go}
 use Rattle.one_worker.proofs.scanning.draft.Goals as goal
 

@@ -1,9 +1,9 @@
 use Rattle.std.proofs.Common.{Result, subst}
 use Rattle.ruby_base.specs.declared.memory.NoMemory.{NoMemory}
-use Rattle.ctl_store.specs.Drafted.{view_of}
-use Rattle.body_meaning.specs.declared.round.RoundEnd.{RoundEnd}
-use Rattle.body_meaning.specs.Round.{IsRoundOf}
-use Rattle.protocol_meaning.specs.Meaning.{scan_of}
+use Rattle.ctl_store.specs.Prelude.{view_of}
+use Rattle.body_meaning.specs.declared.frame.RoundEnd.{RoundEnd}
+use Rattle.body_meaning.specs.Prelude.{IsRoundOf}
+use Rattle.protocol_meaning.specs.Prelude.{scan_of}
 use Rattle.one_worker.proofs.HeldScans.{fired-is, full-is, idle-is, stop-is}
 use Rattle.one_worker.proofs.scanning.scan.Goals.{in-Full, in-Idle, in-Stop}
 use Rattle.one_worker.proofs.scanning.scan.Goals as goal

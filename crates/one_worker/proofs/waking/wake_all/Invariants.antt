@@ -1,7 +1,6 @@
 use Rattle.std.proofs.Common.{◌≡◌}
-use Rattle.one_worker.specs.Adds.{HasAddedAlone}
-use Rattle.one_worker.specs.Waking.{AreWorlds, IsBetween}
-use Rattle.world_events.specs.Worlds.{InWorld}
+use Rattle.one_worker.specs.Prelude.{HasAddedAlone, AreWorlds, IsBetween}
+use Rattle.world_events.specs.Prelude.{InWorld}
 use Rattle.one_worker.proofs.Views.{unfinished_in}
 use Rattle.one_worker.proofs.waking.wake_all.Given as goal
 

@@ -1,6 +1,6 @@
 use Rattle.std.proofs.Common.{sym, subst}
-use Rattle.world_events.specs.declared.held.Held.{Held}
-use Rattle.world_events.specs.Held.{Holds}
+use Rattle.world_events.specs.declared.world.Held.{Held}
+use Rattle.world_events.specs.Prelude.{Holds}
 use Rattle.one_worker.proofs.Views.{alone-none, ends-there, fires-on, rests-held, stays-none}
 use Rattle.one_worker.proofs.waking.wake_held.Goals as goal
 

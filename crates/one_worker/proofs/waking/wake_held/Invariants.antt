@@ -1,7 +1,6 @@
 use Rattle.std.proofs.Common.{◌-◌}
-use Rattle.one_worker.specs.Adds.{HasAddedAlone}
-use Rattle.world_events.specs.Held.{Holds}
-use Rattle.one_worker.specs.Waking.{AreWorlds, Stays}
+use Rattle.one_worker.specs.Prelude.{HasAddedAlone, AreWorlds, Stays}
+use Rattle.world_events.specs.Prelude.{Holds}
 use Rattle.one_worker.proofs.waking.wake_held.Given as goal
 
 abbrev pub invariant-scans : goal.invariant-scans

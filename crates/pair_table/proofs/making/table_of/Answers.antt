@@ -1,7 +1,6 @@
 use Rattle.std.proofs.Common.{◌≡◌, length, slice_index, ap, sym, ◌∙◌}
 use Rattle.slicc_plan.specs.Buffers.{listed}
-use Rattle.pair_table.specs.PairPlaces.{rows_at}
-use Rattle.pair_table.specs.Tables.{answer_at}
+use Rattle.pair_table.specs.Prelude.{rows_at, answer_at}
 use Rattle.pair_table.proofs.OneRow.{row_in_table}
 use Rattle.pair_table.proofs.making.table_of.Goals as goal
 

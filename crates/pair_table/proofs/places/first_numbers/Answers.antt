@@ -1,5 +1,5 @@
 use Rattle.std.proofs.Common.{◌≡◌, ◌+◌, ◌-◌, ◌*◌, ◌<◌, ◌≤◌, ℕ, length, slice_index, slice_index_or, arith, subst, sym, ap, ◌∙◌}
-use Rattle.pair_table.specs.PairPlaces.{IsAmong, first_at, marked, places_of}
+use Rattle.pair_table.specs.Prelude.{IsAmong, first_at, marked, places_of}
 use Rattle.pair_table.proofs.FirstPlaces.{among_at, first_down, marked_length, places_below}
 use Rattle.pair_table.proofs.places.first_numbers.Goals as goal
 

@@ -1,5 +1,5 @@
 use Rattle.std.proofs.Common.{◌≡◌, ℕ, ◌+◌, ◌*◌, ◌≤◌, ◌<◌, drop, length, slice_index}
-use Rattle.pair_table.specs.PairPlaces.{first_at}
+use Rattle.pair_table.specs.Prelude.{first_at}
 use Rattle.pair_table.proofs.places.first_numbers.Given as goal
 
 abbrev pub invariant-loop-number : goal.invariant-loop-number

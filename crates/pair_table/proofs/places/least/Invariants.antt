@@ -1,5 +1,5 @@
 use Rattle.std.proofs.Common.{◌≡◌, take}
-use Rattle.pair_table.specs.PairPlaces.{least_at}
+use Rattle.pair_table.specs.Prelude.{least_at}
 use Rattle.pair_table.proofs.places.least.Given as goal
 
 abbrev pub invariant-loop-place : goal.invariant-loop-place

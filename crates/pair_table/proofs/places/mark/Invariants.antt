@@ -1,5 +1,5 @@
 use Rattle.std.proofs.Common.{◌≡◌, take}
-use Rattle.pair_table.specs.PairPlaces.{marked}
+use Rattle.pair_table.specs.Prelude.{marked}
 use Rattle.pair_table.proofs.places.mark.Given as goal
 
 abbrev pub invariant-loop-place : goal.invariant-loop-place

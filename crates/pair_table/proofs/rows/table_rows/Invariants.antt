@@ -1,5 +1,5 @@
 use Rattle.std.proofs.Common.{◌≡◌, take}
-use Rattle.pair_table.specs.PairPlaces.{rows_at}
+use Rattle.pair_table.specs.Prelude.{rows_at}
 use Rattle.pair_table.proofs.rows.table_rows.Given as goal
 
 abbrev pub invariant-loop-place : goal.invariant-loop-place

@@ -1,8 +1,8 @@
 use Rattle.std.proofs.Common.{◌≡◌, ℕ, ◌<◌, find, length, slice_get, slice_index_or, subst, sym, ap, take, [], arith, ◌∙◌}
 use Rattle.std.proofs.lemmas.List.{take_all}
-use Rattle.slicc_plan.specs.Order.{first_after}
-use Rattle.slicc_plan.specs.TwoTransitions.{share_pair, shared_after, told_with}
-use Rattle.pair_table.specs.PairPlaces.{IsAmong, places_of}
+use Rattle.slicc_plan.specs.Prelude.{first_after, share_pair, shared_after}
+use Rattle.slicc_plan.specs.TwoTransitions.{told_with}
+use Rattle.pair_table.specs.Prelude.{IsAmong, places_of}
 use Rattle.pair_table.proofs.FirstPlaces.{among_at, places_below}
 use Rattle.pair_table.proofs.Sharing.{earliest_shared, shared_step}
 use Rattle.pair_table.proofs.shared.first_shared.Goals as goal

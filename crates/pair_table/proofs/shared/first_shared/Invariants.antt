@@ -1,6 +1,5 @@
 use Rattle.std.proofs.Common.{◌≡◌, [], take}
-use Rattle.slicc_plan.specs.Order.{first_after}
-use Rattle.slicc_plan.specs.TwoTransitions.{shared_after}
+use Rattle.slicc_plan.specs.Prelude.{first_after, shared_after}
 use Rattle.pair_table.proofs.shared.first_shared.Given as goal
 
 abbrev pub invariant-loop-k : goal.invariant-loop-k

@@ -1,5 +1,5 @@
 use Rattle.acts.proofs.Left.{left_copies, left_counts, left_lawful, left_mailed, left_marked, left_marks, left_scan}
-use Rattle.body_meaning.specs.Scan.{scan}
+use Rattle.body_meaning.specs.Prelude.{scan}
 use Rattle.protocol_meaning.proofs.Left.{left_by_scan}
 use Rattle.protocol_meaning.proofs.every_scan.scans_keep_what_holds.Goals as goal
 

@@ -1,4 +1,4 @@
-use Rattle.protocol_meaning.specs.Meaning.{scan_of}
+use Rattle.protocol_meaning.specs.Prelude.{scan_of}
 use Rattle.protocol_meaning.proofs.Rounds.{round_told}
 use Rattle.protocol_meaning.proofs.laws.rounds_are_scans.Goals as goal
 

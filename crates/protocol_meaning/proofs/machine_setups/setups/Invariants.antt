@@ -1,8 +1,8 @@
 use Rattle.std.proofs.Common.{◌≡◌, ◌++◌, ℕ, drop}
 use Rattle.std.specs.List.{enumerate_from, filter_map}
 use Rattle.ruby_value.specs.declared.setup.Sizes.{Sizes}
-use Rattle.slicc_plan.specs.Setups.{setup_of}
-use Rattle.protocol_meaning.specs.Setups.{setups_of}
+use Rattle.slicc_plan.specs.Prelude.{setup_of}
+use Rattle.protocol_meaning.specs.Prelude.{setups_of}
 use Rattle.protocol_meaning.proofs.machine_setups.setups.Given as goal
 
 abbrev pub invariant-loop-number : goal.invariant-loop-number

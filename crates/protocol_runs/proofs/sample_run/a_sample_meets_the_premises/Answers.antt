@@ -1,10 +1,7 @@
 use Rattle.std.proofs.Common.{ℕ, Option, None, Some, refl}
-use Rattle.protocol_runs.specs.Run.{Ran, run as run_of, start}
-use Rattle.protocol_runs.specs.Step.{step}
-use Rattle.ctl_face.specs.Ctl.{Ctl}
-use Rattle.acts.specs.Acting.{act, either, run, ◌>>=◌, ◌>>◌}
-use Rattle.acts.specs.Done.{does}
-use Rattle.protocol_runs.specs.Sample.{sample_history, sample_rules, taking}
+use Rattle.protocol_runs.specs.Prelude.{Ran, run as run_of, start, step, sample_history, sample_rules, taking}
+use Rattle.ctl_face.specs.Prelude.{Ctl}
+use Rattle.acts.specs.Prelude.{act, either, run, ◌>>=◌, ◌>>◌, does}
 use Rattle.protocol_runs.proofs.Sample.{sample-means}
 use Rattle.protocol_runs.proofs.sample_run.a_sample_meets_the_premises.Goals as goal
 

@@ -1,8 +1,8 @@
 use Rattle.std.proofs.Common.{subst}
 use Rattle.std.proofs.lemmas.List.{take_all}
-use Rattle.slicc_plan.specs.SymbolsOfMachines.{action_symbol, function_symbol, in_port_symbol, out_port_symbol}
-use Rattle.type_numbers.specs.Numbered.{trees_of}
-use Rattle.protocol_symbols.specs.Parts.{AddBodies}
+use Rattle.slicc_plan.specs.Prelude.{action_symbol, function_symbol, in_port_symbol, out_port_symbol}
+use Rattle.type_numbers.specs.Prelude.{trees_of}
+use Rattle.protocol_symbols.specs.Prelude.{AddBodies}
 use Rattle.protocol_symbols.proofs.Numbered.{list_step}
 use Rattle.protocol_symbols.proofs.bodies.add_bodies.Goals as goal
 

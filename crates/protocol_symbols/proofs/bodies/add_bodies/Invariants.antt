@@ -1,6 +1,6 @@
 use Rattle.std.proofs.Common.{take}
-use Rattle.type_numbers.specs.Numbered.{trees_of}
-use Rattle.protocol_symbols.specs.Parts.{AddBodies}
+use Rattle.type_numbers.specs.Prelude.{trees_of}
+use Rattle.protocol_symbols.specs.Prelude.{AddBodies}
 use Rattle.protocol_symbols.proofs.bodies.add_bodies.Given as goal
 
 abbrev pub invariant-loop-number : goal.invariant-loop-number

@@ -1,9 +1,9 @@
 use Rattle.std.proofs.Common.{List, subst}
 use Rattle.ruby_symbols.specs.declared.machine.BufferSymbol.{BufferSymbol}
 use Rattle.slicc_ast.specs.declared.tree.machine.Decl.{Decl}
-use Rattle.slicc_plan.specs.Declarations.{Declaration}
-use Rattle.type_numbers.specs.Numbered.{trees_of}
-use Rattle.protocol_symbols.specs.Parts.{AddBodies, AddObjects}
+use Rattle.slicc_plan.specs.Prelude.{Declaration}
+use Rattle.type_numbers.specs.Prelude.{trees_of}
+use Rattle.protocol_symbols.specs.Prelude.{AddBodies, AddObjects}
 use Rattle.protocol_symbols.proofs.machine.add_parts.Goals as goal
 
 pub returns-clause-objects : goal.returns-clause-objects

@@ -1,7 +1,7 @@
 use Rattle.std.proofs.Common.{subst}
-use Rattle.slicc_plan.specs.Declarations.{machine_declarations}
-use Rattle.type_numbers.specs.Numbered.{trees_of}
-use Rattle.protocol_symbols.specs.Parts.{AddBodies, AddObjects, AddRest}
+use Rattle.slicc_plan.specs.Prelude.{machine_declarations}
+use Rattle.type_numbers.specs.Prelude.{trees_of}
+use Rattle.protocol_symbols.specs.Prelude.{AddBodies, AddObjects, AddRest}
 use Rattle.protocol_symbols.specs.declared.bodies.Bodies.{Bodies}
 use Rattle.protocol_symbols.specs.declared.machine.Rest.{Rest}
 use Rattle.protocol_symbols.specs.declared.objects.Objects.{Objects}

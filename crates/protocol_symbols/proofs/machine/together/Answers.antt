@@ -1,7 +1,7 @@
 use Rattle.std.proofs.Common.{◌∙◌, ap}
 use Rattle.std.specs.Prelude.{codes}
-use Rattle.ruby_symbols.specs.Names.{action_among, function_among}
-use Rattle.slicc_plan.specs.SymbolsOfMachines.{in_port_symbol, machine_symbols, numbered_from, out_port_symbol}
+use Rattle.ruby_symbols.specs.Prelude.{action_among, function_among}
+use Rattle.slicc_plan.specs.Prelude.{in_port_symbol, machine_symbols, numbered_from, out_port_symbol}
 use Rattle.protocol_symbols.proofs.machine.together.Goals as goal
 
 pub returns : goal.returns

@@ -1,7 +1,7 @@
 use Rattle.std.proofs.Common.{take}
-use Rattle.declared_types.specs.Lent.{declarations_of}
-use Rattle.type_numbers.specs.Numbered.{trees_of}
-use Rattle.protocol_symbols.specs.Parts.{AddObjects}
+use Rattle.declared_types.specs.Prelude.{declarations_of}
+use Rattle.type_numbers.specs.Prelude.{trees_of}
+use Rattle.protocol_symbols.specs.Prelude.{AddObjects}
 use Rattle.protocol_symbols.proofs.objects.add_objects.Given as goal
 
 abbrev pub invariant-loop-d : goal.invariant-loop-d

@@ -1,8 +1,7 @@
 use Rattle.std.proofs.Common.{◌++◌, ◌∷◌, [], ◌∙◌, ap, append_assoc, map, sym, take}
 use Rattle.std.proofs.lemmas.List.{take_all}
-use Rattle.slicc_plan.specs.SymbolsOf.{machines_from}
-use Rattle.type_numbers.specs.Numbered.{trees_of}
-use Rattle.slicc_plan.specs.SymbolsOfMachines.{machine_symbols}
+use Rattle.slicc_plan.specs.Prelude.{machines_from, machine_symbols}
+use Rattle.type_numbers.specs.Prelude.{trees_of}
 use Rattle.protocol_symbols.proofs.Numbered.{machines_step}
 use Rattle.protocol_symbols.proofs.protocol.add_machines.Goals as goal
 

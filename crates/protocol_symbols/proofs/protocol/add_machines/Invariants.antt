@@ -1,6 +1,6 @@
 use Rattle.std.proofs.Common.{◌≡◌, ◌++◌, map, take}
-use Rattle.slicc_plan.specs.SymbolsOf.{machines_from}
-use Rattle.type_numbers.specs.Numbered.{trees_of}
+use Rattle.slicc_plan.specs.Prelude.{machines_from}
+use Rattle.type_numbers.specs.Prelude.{trees_of}
 use Rattle.protocol_symbols.proofs.protocol.add_machines.Given as goal
 
 abbrev pub invariant-loop-number : goal.invariant-loop-number

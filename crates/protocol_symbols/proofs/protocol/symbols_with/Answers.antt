@@ -1,8 +1,6 @@
 use Rattle.std.proofs.Common.{◌++◌, ap, ◌∙◌}
-use Rattle.slicc_plan.specs.Declarations.{machines_of}
-use Rattle.slicc_plan.specs.SymbolsOf.{machines_from, symbols_of}
-use Rattle.slicc_plan.specs.SymbolsOfTypes.{enumeration_symbols, structure_symbols}
-use Rattle.type_numbers.specs.Numbered.{trees_of}
+use Rattle.slicc_plan.specs.Prelude.{machines_of, machines_from, symbols_of, enumeration_symbols, structure_symbols}
+use Rattle.type_numbers.specs.Prelude.{trees_of}
 use Rattle.protocol_symbols.proofs.protocol.symbols_with.Goals as goal
 
 pub returns : goal.returns

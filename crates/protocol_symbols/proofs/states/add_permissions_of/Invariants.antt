@@ -1,6 +1,6 @@
 use Rattle.std.proofs.Common.{◌≡◌, ◌++◌, map, take}
 use Rattle.slicc_ast.specs.declared.tree.declaration.State.{State}
-use Rattle.slicc_plan.specs.SymbolsOfMachines.{permission_number}
+use Rattle.slicc_plan.specs.Prelude.{permission_number}
 use Rattle.protocol_symbols.proofs.states.add_permissions_of.Given as goal
 
 abbrev pub invariant-loop-s : goal.invariant-loop-s

@@ -1,5 +1,5 @@
 use Rattle.std.proofs.Common.{◌≡◌, arith, rules}
-use Rattle.ruby_answers.specs.Generated.{generated_name}
+use Rattle.ruby_answers.specs.Prelude.{generated_name}
 use Rattle.ruby_answers.proofs.Answering.{found_generated, is_gen}
 use Rattle.ruby_answers.proofs.find.find_generated.Goals as goal
 

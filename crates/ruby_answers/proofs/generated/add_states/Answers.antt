@@ -1,5 +1,5 @@
 use Rattle.std.proofs.Common.{◌++◌, ap, ◌∙◌}
-use Rattle.ruby_answers.specs.Generated.{state_text}
+use Rattle.ruby_answers.specs.Prelude.{state_text}
 use Rattle.ruby_answers.proofs.Steps.{one_more}
 use Rattle.ruby_answers.proofs.generated.add_states.Goals as goal
 

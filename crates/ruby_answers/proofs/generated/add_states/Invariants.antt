@@ -1,5 +1,5 @@
 use Rattle.std.proofs.Common.{◌≡◌, ◌++◌}
-use Rattle.ruby_answers.specs.Generated.{states_text}
+use Rattle.ruby_answers.specs.Prelude.{states_text}
 use Rattle.ruby_answers.proofs.generated.add_states.Given as goal
 
 abbrev pub invariant-loop-i : goal.invariant-loop-i

@@ -1,5 +1,5 @@
 use Rattle.std.proofs.Common.{ℕ, ◌+◌, ◌%◌, List, ◌++◌, ap, ◌∙◌}
-use Rattle.ruby_answers.specs.Generated.{transition_text}
+use Rattle.ruby_answers.specs.Prelude.{transition_text}
 use Rattle.ruby_answers.proofs.Steps.{one_more}
 use Rattle.ruby_answers.proofs.generated.add_transitions.Goals as goal
 

@@ -1,6 +1,6 @@
 use Rattle.std.proofs.Common.{◌≡◌, ◌+◌, ◌%◌, ◌++◌, flat_map}
 use Rattle.std.specs.List.{range_with_len}
-use Rattle.ruby_answers.specs.Generated.{transition_text}
+use Rattle.ruby_answers.specs.Prelude.{transition_text}
 use Rattle.ruby_answers.proofs.generated.add_transitions.Given as goal
 
 abbrev pub invariant-loop-i : goal.invariant-loop-i

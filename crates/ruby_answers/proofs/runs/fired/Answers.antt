@@ -1,6 +1,6 @@
 use Rattle.std.proofs.Common.{◌+◌, arith, ap, count_by, sym, take, ◌∙◌}
 use Rattle.std.proofs.lemmas.List.{take_all}
-use Rattle.ruby_answers.specs.Text.{is_fired}
+use Rattle.ruby_answers.specs.Prelude.{is_fired}
 use Rattle.ruby_answers.proofs.Counting.{count_step}
 use Rattle.ruby_answers.proofs.runs.fired.Goals as goal
 

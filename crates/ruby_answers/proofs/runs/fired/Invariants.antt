@@ -1,5 +1,5 @@
 use Rattle.std.proofs.Common.{◌≡◌, ◌≤◌, count_by, take}
-use Rattle.ruby_answers.specs.Text.{is_fired}
+use Rattle.ruby_answers.specs.Prelude.{is_fired}
 use Rattle.ruby_answers.proofs.runs.fired.Given as goal
 
 abbrev pub invariant-loop-entry : goal.invariant-loop-entry

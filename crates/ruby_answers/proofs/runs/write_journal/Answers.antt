@@ -1,8 +1,8 @@
 use Rattle.std.proofs.Common.{ℕ, ◌+◌, List, ◌∷◌, ap, drop, flat_map, sym, ◌∙◌}
 use Rattle.std.proofs.lemmas.List.{drop_all, drop_more}
-use Rattle.slicc_plan.specs.SymbolsOf.{symbols_of}
+use Rattle.slicc_plan.specs.Prelude.{symbols_of}
 use Rattle.run_journal.specs.declared.entry.Entry.{Entry}
-use Rattle.trace_print.specs.Entries.{entry_lines}
+use Rattle.trace_print.specs.Prelude.{entry_lines}
 use Rattle.ruby_answers.proofs.Following.{no_part, part_cut, part_on}
 use Rattle.ruby_answers.proofs.runs.write_journal.Goals as goal
 

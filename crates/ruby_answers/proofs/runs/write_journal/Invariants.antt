@@ -1,7 +1,6 @@
 use Rattle.std.proofs.Common.{Bool, drop, flat_map}
-use Rattle.slicc_plan.specs.SymbolsOf.{symbols_of}
-use Rattle.trace_print.specs.Entries.{entry_lines}
-use Rattle.trace_print.specs.Pieces.{AreLinesPut}
+use Rattle.slicc_plan.specs.Prelude.{symbols_of}
+use Rattle.trace_print.specs.Prelude.{entry_lines, AreLinesPut}
 use Rattle.ruby_answers.proofs.runs.write_journal.Given as goal
 
 abbrev pub invariant-loop-entry : goal.invariant-loop-entry

@@ -1,8 +1,8 @@
 use Rattle.std.proofs.Common.{refl, true, false}
-use Rattle.slicc_plan.specs.SymbolsOf.{symbols_of}
-use Rattle.trace_print.specs.Ends.{rest_lines}
+use Rattle.slicc_plan.specs.Prelude.{symbols_of}
+use Rattle.trace_print.specs.Prelude.{rest_lines}
 use Rattle.trace_print.proofs.Listing.{lines_on, lines_stopped}
-use Rattle.ruby_answers.specs.Text.{traced_lines}
+use Rattle.ruby_answers.specs.Prelude.{traced_lines}
 use Rattle.ruby_answers.proofs.runs.write_run.Goals as goal
 
 pub returns-then-not-write_traced : goal.returns-then-not-write_traced

@@ -1,7 +1,7 @@
 use Rattle.std.proofs.Common.{ap, flat_map, ◌∙◌}
-use Rattle.slicc_plan.specs.SymbolsOf.{symbols_of}
-use Rattle.trace_print.specs.Entries.{entry_lines}
-use Rattle.ruby_answers.specs.Text.{traced_lines}
+use Rattle.slicc_plan.specs.Prelude.{symbols_of}
+use Rattle.trace_print.specs.Prelude.{entry_lines}
+use Rattle.ruby_answers.specs.Prelude.{traced_lines}
 use Rattle.ruby_answers.proofs.Following.{no_part, same_lines, traced, untraced}
 use Rattle.ruby_answers.proofs.runs.write_traced.Goals as goal
 

@@ -1,6 +1,6 @@
 use Rattle.std.proofs.Common.{◌++◌, ap, ◌∙◌}
 use Rattle.slicc_plan.specs.Buffers.{listed}
-use Rattle.ruby_answers.specs.Tables.{answered}
+use Rattle.ruby_answers.specs.Prelude.{answered}
 use Rattle.ruby_answers.proofs.RowsBelow.{one_more}
 use Rattle.ruby_answers.proofs.tables.add_rows.Goals as goal
 

@@ -1,5 +1,5 @@
 use Rattle.std.proofs.Common.{◌≡◌, ◌++◌}
-use Rattle.ruby_answers.specs.Tables.{answered_in_state}
+use Rattle.ruby_answers.specs.Prelude.{answered_in_state}
 use Rattle.ruby_answers.proofs.tables.add_rows.Given as goal
 
 abbrev pub invariant-loop-event : goal.invariant-loop-event

@@ -1,5 +1,5 @@
 use Rattle.std.proofs.Common.{[], ◌++◌, ap, ◌∙◌}
-use Rattle.ruby_answers.specs.Tables.{answered_in_state}
+use Rattle.ruby_answers.specs.Prelude.{answered_in_state}
 use Rattle.ruby_answers.proofs.RowsBelow.{one_more}
 use Rattle.ruby_answers.proofs.tables.answered_rows.Goals as goal
 

@@ -1,6 +1,6 @@
 use Rattle.std.proofs.Common.{◌≡◌, flat_map}
-use Rattle.slicc_plan.specs.Counts.{numbers_below}
-use Rattle.ruby_answers.specs.Tables.{answered_in_state}
+use Rattle.slicc_plan.specs.Prelude.{numbers_below}
+use Rattle.ruby_answers.specs.Prelude.{answered_in_state}
 use Rattle.ruby_answers.proofs.tables.answered_rows.Given as goal
 
 abbrev pub invariant-loop-state : goal.invariant-loop-state

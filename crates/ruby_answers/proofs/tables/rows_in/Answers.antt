@@ -1,6 +1,6 @@
 use Rattle.std.proofs.Common.{map, ap, sym, ◌∙◌}
 use Rattle.std.proofs.lemmas.List.{take_all}
-use Rattle.ruby_answers.specs.Tables.{answered, machine_rows}
+use Rattle.ruby_answers.specs.Prelude.{answered, machine_rows}
 use Rattle.ruby_answers.proofs.RowsBelow.{machine_found, machine_step}
 use Rattle.ruby_answers.proofs.tables.rows_in.Goals as goal
 

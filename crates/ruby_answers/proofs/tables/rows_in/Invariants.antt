@@ -1,5 +1,5 @@
 use Rattle.std.proofs.Common.{◌≡◌, map, take}
-use Rattle.ruby_answers.specs.Tables.{machine_rows}
+use Rattle.ruby_answers.specs.Prelude.{machine_rows}
 use Rattle.ruby_answers.proofs.tables.rows_in.Given as goal
 
 abbrev pub invariant-loop-place : goal.invariant-loop-place

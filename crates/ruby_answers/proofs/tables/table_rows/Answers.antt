@@ -1,8 +1,7 @@
 use Rattle.std.proofs.Common.{◌≡◌, [], map, slice_get, ap, ◌∙◌}
-use Rattle.slicc_plan.specs.Declarations.{machines_of}
-use Rattle.slicc_plan.specs.TwoTransitions.{shared_pairs}
-use Rattle.machine_table.specs.TablesOf.{rows_of_found}
-use Rattle.ruby_answers.specs.Tables.{machine_rows}
+use Rattle.slicc_plan.specs.Prelude.{machines_of, shared_pairs}
+use Rattle.machine_table.specs.Prelude.{rows_of_found}
+use Rattle.ruby_answers.specs.Prelude.{machine_rows}
 use Rattle.ruby_answers.proofs.NoPairShared.{none_shared}
 use Rattle.ruby_answers.proofs.tables.table_rows.Goals as goal
 

@@ -1,9 +1,8 @@
 use Rattle.std.proofs.Common.{ℕ, ◌+◌, ◌∷◌, List, ap, drop, sym, ◌∙◌}
 use Rattle.std.proofs.lemmas.List.{drop_all, drop_more}
 use Rattle.slicc_plan.specs.declared.row.Row.{Row}
-use Rattle.slicc_plan.specs.SymbolsOf.{symbols_of}
-use Rattle.slicc_plan.specs.SymbolsOfMachines.{numbered_from}
-use Rattle.trace_print.specs.Rows.{row_lines}
+use Rattle.slicc_plan.specs.Prelude.{symbols_of, numbered_from}
+use Rattle.trace_print.specs.Prelude.{row_lines}
 use Rattle.ruby_answers.proofs.Following.{no_part, part_cut, part_on}
 use Rattle.ruby_answers.proofs.tables.write_tables.Goals as goal
 

@@ -1,8 +1,6 @@
 use Rattle.std.proofs.Common.{Bool, drop}
-use Rattle.slicc_plan.specs.SymbolsOf.{symbols_of}
-use Rattle.slicc_plan.specs.SymbolsOfMachines.{numbered_from}
-use Rattle.trace_print.specs.Pieces.{AreLinesPut}
-use Rattle.trace_print.specs.Rows.{row_lines}
+use Rattle.slicc_plan.specs.Prelude.{symbols_of, numbered_from}
+use Rattle.trace_print.specs.Prelude.{AreLinesPut, row_lines}
 use Rattle.ruby_answers.proofs.tables.write_tables.Given as goal
 
 abbrev pub invariant-loop-machine : goal.invariant-loop-machine

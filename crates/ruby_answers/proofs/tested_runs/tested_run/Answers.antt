@@ -1,5 +1,5 @@
 use Rattle.std.proofs.Common.{◌≡◌, arith, rules}
-use Rattle.ruby_answers.specs.Record.{tester_of}
+use Rattle.ruby_answers.specs.Prelude.{tester_of}
 use Rattle.ruby_answers.proofs.MadeRuns.{tested_alone}
 use Rattle.ruby_answers.proofs.tested_runs.tested_run.Goals as goal
 

@@ -1,5 +1,5 @@
 use Rattle.trace_print.proofs.Written.{lines_written}
-use Rattle.ruby_answers.specs.Text.{lines_of}
+use Rattle.ruby_answers.specs.Prelude.{lines_of}
 use Rattle.ruby_answers.proofs.writing.write_answer.Goals as goal
 
 pub returns-clause-written : goal.returns-clause-written

@@ -4,7 +4,7 @@ use Rattle.clap.specs.Simple.{with_rule}
 use Rattle.clap.specs.Walk.{Rule, rule_of}
 use Rattle.clap.specs.declared.builder.arg.Arg.{Arg}
 use Rattle.clap.specs.declared.builder.range.ValueRange.{ValueRange}
-use Rattle.ruby_options.specs.CommandLine.{names_rule}
+use Rattle.ruby_options.specs.Prelude.{names_rule}
 use Rattle.ruby_options.proofs.command_line.named_command.Goals as goal
 
 some_is : (o : Option ValueRange) (range : ValueRange) → IsSomeAnd o (λ r. r ≡ range) → o ≡ Some range

@@ -1,7 +1,7 @@
 use Rattle.std.proofs.Common.{◌∙◌, ap, fold, map}
 use Rattle.std.proofs.lemmas.Result.{IfOk-weaker}
 use Rattle.clap.specs.Simple.{App}
-use Rattle.ruby_options.specs.CommandLine.{with_option}
+use Rattle.ruby_options.specs.Prelude.{with_option}
 use Rattle.ruby_options.specs.declared.tables.TheConstants.{NUMBERS, TRACE}
 use Rattle.ruby_options.proofs.Parsed.{whole}
 use Rattle.ruby_options.proofs.command_line.ruby_command.Goals as goal

@@ -1,7 +1,7 @@
 use Rattle.std.proofs.Common.{◌≡◌, ◌∙◌, ◌+◌, ◌<◌, ℕ, List, add-one, ap, drop, drop-cons, fold, get_or, length, map, sym}
 use Rattle.clap.specs.Simple.{App}
 use Rattle.clap.specs.Walk.{Text}
-use Rattle.ruby_options.specs.CommandLine.{with_option}
+use Rattle.ruby_options.specs.Prelude.{with_option}
 use Rattle.ruby_options.proofs.command_line.with_numbers.Goals as goal
 
 -- with the first of the options that are left, the command with all is the same

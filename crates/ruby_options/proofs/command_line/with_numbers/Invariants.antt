@@ -1,6 +1,6 @@
 use Rattle.std.proofs.Common.{◌≡◌, drop, fold, map}
 use Rattle.clap.specs.Simple.{app_of}
-use Rattle.ruby_options.specs.CommandLine.{with_option}
+use Rattle.ruby_options.specs.Prelude.{with_option}
 use Rattle.ruby_options.proofs.command_line.with_numbers.Given as goal
 
 -- with the options that are left, the command is the one with all

@@ -1,5 +1,5 @@
 use Rattle.std.proofs.Common.{◌≡◌, drop, map}
-use Rattle.ruby_options.specs.Asked.{command_among}
+use Rattle.ruby_options.specs.Prelude.{command_among}
 use Rattle.ruby_options.proofs.names.command_among.Given as goal
 
 -- what the rows have is what those that are left have

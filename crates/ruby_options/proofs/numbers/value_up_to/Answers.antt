@@ -1,6 +1,6 @@
 use Rattle.std.proofs.Common.{◌≡◌, ◌<◌, ◌+◌, ◌-◌, ◌*◌, ℕ, suc, List, length, drop, get_or, ap, sym, ◌∙◌, arith}
 use Rattle.std.proofs.Math.Seq.{drop-cons}
-use Rattle.ruby_options.specs.Numbers.{value_of}
+use Rattle.ruby_options.specs.Prelude.{value_of}
 use Rattle.ruby_options.proofs.Digits.{value_from, grows}
 use Rattle.ruby_options.proofs.numbers.value_up_to.Goals as goal
 

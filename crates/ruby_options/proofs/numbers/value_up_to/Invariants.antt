@@ -1,5 +1,5 @@
 use Rattle.std.proofs.Common.{◌≡◌, ◌≤◌, drop}
-use Rattle.ruby_options.specs.Numbers.{value_of}
+use Rattle.ruby_options.specs.Prelude.{value_of}
 use Rattle.ruby_options.proofs.Digits.{value_from}
 use Rattle.ruby_options.proofs.numbers.value_up_to.Given as goal
 

@@ -2,7 +2,7 @@ use Rattle.std.proofs.Common.{◌∙◌, ap, sym}
 use Rattle.clap.specs.Matches.{found_of}
 use Rattle.clap.specs.Walk.{first_of}
 use Rattle.clap.proofs.WalkLemmas.{first_value-rows}
-use Rattle.ruby_options.specs.CommandLine.{rows_given}
+use Rattle.ruby_options.specs.Prelude.{rows_given}
 use Rattle.ruby_options.proofs.numbers.word_given.Goals as goal
 
 pub returns-in-Some : goal.returns-in-Some

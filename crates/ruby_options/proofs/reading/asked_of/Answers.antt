@@ -1,8 +1,7 @@
 use Rattle.std.proofs.Common.{◌≡◌, ◌∙◌, ap, arith, false, inr, map, refl, rules, subst, sym, true}
 use Rattle.clap.specs.Matches.{found_of}
 use Rattle.clap.specs.Walk.{rows_of}
-use Rattle.ruby_options.specs.Asked.{are_in_range, options_of}
-use Rattle.ruby_options.specs.Within.{IsWithin}
+use Rattle.ruby_options.specs.Prelude.{are_in_range, options_of, IsWithin}
 use Rattle.ruby_options.proofs.Between.{are_within}
 use Rattle.ruby_options.proofs.Given.{names_are}
 use Rattle.ruby_options.proofs.Steps.{in_range, no_command, no_count, out_of_range}

@@ -1,4 +1,4 @@
-use Rattle.ruby_options.specs.Asked.{numbers_in_range}
+use Rattle.ruby_options.specs.Prelude.{numbers_in_range}
 use Rattle.ruby_options.proofs.reading.numbers_in_range.Goals as goal
 
 pub returns : goal.returns

@@ -1,6 +1,5 @@
 use Rattle.std.proofs.Common.{◌≤◌, arith, subst, sym}
-use Rattle.ruby_options.specs.CommandLine.{rows_given}
-use Rattle.ruby_options.specs.Numbers.{option_row}
+use Rattle.ruby_options.specs.Prelude.{rows_given, option_row}
 use Rattle.ruby_options.specs.declared.tables.TheConstants.{WORKERS}
 use Rattle.ruby_options.proofs.Between.{option_between}
 use Rattle.ruby_options.proofs.reading.workers_of.Goals as goal

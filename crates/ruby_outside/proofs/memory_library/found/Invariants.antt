@@ -1,5 +1,5 @@
 use Rattle.std.proofs.Common.{◌≡◌, drop}
-use Rattle.ruby_outside.specs.Files.{bytes_of}
+use Rattle.ruby_outside.specs.Prelude.{bytes_of}
 use Rattle.ruby_outside.proofs.memory_library.found.Given as goal
 
 abbrev pub invariant-loop-file : goal.invariant-loop-file

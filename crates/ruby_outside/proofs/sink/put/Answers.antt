@@ -1,5 +1,5 @@
 use Rattle.std.proofs.Common.{◌≡◌, ◌-◌, ℕ, length, take, drop, arith, length-drop, length-take, ap, rules}
-use Rattle.ruby_outside.specs.Sink.{bytes_taken}
+use Rattle.ruby_outside.specs.Prelude.{bytes_taken}
 use Rattle.ruby_outside.specs.declared.sink.Wrote.TheVariants.{Took}
 use Rattle.ruby_outside.proofs.Puts.{all_left, fails, goes_on, stuck, put_written}
 use Rattle.ruby_outside.proofs.sink.put.Goals as goal

@@ -1,5 +1,5 @@
 use Rattle.std.proofs.Common.{◌-◌, ◌≤◌, Bool, length, drop}
-use Rattle.ruby_outside.specs.Put.{IsPut}
+use Rattle.ruby_outside.specs.Prelude.{IsPut}
 use Rattle.ruby_outside.proofs.sink.put.Given as goal
 
 abbrev pub invariant-loop-done : goal.invariant-loop-done

@@ -1,7 +1,7 @@
 use Rattle.std.proofs.Common.{◌≡◌, IfSome, ◌∙◌, subst, arith}
 use Rattle.std.specs.IoError.{error_kind}
 use Rattle.std.specs.declared.io.ErrorKind.TheVariants.{OutOfMemory}
-use Rattle.ruby_outside.specs.Files.{IsReadOf}
+use Rattle.ruby_outside.specs.Prelude.{IsReadOf}
 use Rattle.ruby_outside.proofs.Whole.{read_right}
 use Rattle.ruby_outside.proofs.system.read_whole.Goals as goal
 

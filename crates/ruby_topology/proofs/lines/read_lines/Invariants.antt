@@ -1,8 +1,5 @@
 use Rattle.std.proofs.Common.{◌≡◌, ◌≤◌, ◌+◌, All, length}
-use Rattle.ruby_topology.specs.Lines.{read_from, reading}
-use Rattle.ruby_topology.specs.Said.{controllers}
-use Rattle.ruby_topology.specs.Text.{lines_of}
-use Rattle.ruby_topology.specs.Within.{IsWithin}
+use Rattle.ruby_topology.specs.Prelude.{read_from, reading, controllers, lines_of, IsWithin}
 use Rattle.ruby_topology.proofs.lines.read_lines.Given as goal
 
 abbrev pub invariant-loop-rest : goal.invariant-loop-rest

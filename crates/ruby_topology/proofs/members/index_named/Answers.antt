@@ -1,6 +1,6 @@
 use Rattle.std.proofs.Common.{◌∙◌, sym, arith}
 use Rattle.std.specs.Str.{bytes_eq}
-use Rattle.ruby_topology.specs.Members.{controller_name}
+use Rattle.ruby_topology.specs.Prelude.{controller_name}
 use Rattle.ruby_topology.proofs.Ranges.{found_at, found_nowhere}
 use Rattle.ruby_topology.proofs.members.index_named.Goals as goal
 

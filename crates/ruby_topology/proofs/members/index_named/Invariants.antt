@@ -1,6 +1,6 @@
 use Rattle.std.proofs.Common.{◌≡◌, ◌<◌, ℕ, false}
 use Rattle.std.specs.Str.{bytes_eq}
-use Rattle.ruby_topology.specs.Members.{controller_name}
+use Rattle.ruby_topology.specs.Prelude.{controller_name}
 use Rattle.ruby_topology.proofs.members.index_named.Given as goal
 
 abbrev pub invariant-loop-index : goal.invariant-loop-index

@@ -1,5 +1,5 @@
 use Rattle.std.proofs.Common.{◌∷◌, ◌∙◌, ◌≤◌, arith, length, sym}
-use Rattle.ruby_topology.specs.Members.{decimal}
+use Rattle.ruby_topology.specs.Prelude.{decimal}
 use Rattle.ruby_topology.proofs.Names.{other_front, same_front}
 use Rattle.ruby_topology.proofs.members.is_name.Goals as goal
 

@@ -1,5 +1,5 @@
 use Rattle.std.proofs.Common.{◌∙◌, length, sym, arith, below_more}
-use Rattle.ruby_topology.specs.Members.{member_in}
+use Rattle.ruby_topology.specs.Prelude.{member_in}
 use Rattle.ruby_topology.proofs.Ranges.{some_at, some_nowhere}
 use Rattle.ruby_topology.proofs.members.member_named.Goals as goal
 

@@ -1,5 +1,5 @@
 use Rattle.std.proofs.Common.{◌≡◌, ◌<◌, ℕ, None}
-use Rattle.ruby_topology.specs.Members.{member_in}
+use Rattle.ruby_topology.specs.Prelude.{member_in}
 use Rattle.ruby_topology.proofs.members.member_named.Given as goal
 
 abbrev pub invariant-loop-machine : goal.invariant-loop-machine

@@ -1,4 +1,4 @@
-use Rattle.ruby_topology.specs.Paths.{path_by}
+use Rattle.ruby_topology.specs.Prelude.{path_by}
 use Rattle.ruby_topology.proofs.Steps.{step_map}
 use Rattle.ruby_topology.proofs.paths.computed_row.Goals as goal
 

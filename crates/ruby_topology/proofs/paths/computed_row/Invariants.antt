@@ -1,6 +1,6 @@
 use Rattle.std.proofs.Common.{◌≡◌, map}
 use Rattle.std.specs.List.{range_with_len}
-use Rattle.ruby_topology.specs.Paths.{path_by}
+use Rattle.ruby_topology.specs.Prelude.{path_by}
 use Rattle.ruby_topology.proofs.paths.computed_row.Given as goal
 
 abbrev pub invariant-loop-to : goal.invariant-loop-to

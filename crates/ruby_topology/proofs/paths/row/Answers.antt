@@ -1,5 +1,5 @@
 use Rattle.std.proofs.Common.{subst, sym}
-use Rattle.ruby_topology.specs.Paths.{IsRow}
+use Rattle.ruby_topology.specs.Prelude.{IsRow}
 use Rattle.ruby_topology.proofs.Rows.{computed_is_row}
 use Rattle.ruby_topology.proofs.paths.row.Goals as goal
 

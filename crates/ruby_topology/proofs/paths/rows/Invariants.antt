@@ -1,5 +1,5 @@
 use Rattle.std.proofs.Common.{◌≡◌, ◌<◌, ℕ, [], length, get_or}
-use Rattle.ruby_topology.specs.Paths.{IsRow}
+use Rattle.ruby_topology.specs.Prelude.{IsRow}
 use Rattle.ruby_topology.proofs.paths.rows.Given as goal
 
 abbrev pub invariant-loop-from : goal.invariant-loop-from

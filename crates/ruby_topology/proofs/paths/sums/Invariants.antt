@@ -1,5 +1,5 @@
 use Rattle.std.proofs.Common.{◌≡◌, ◌<◌, ℕ, Some, length, get_or}
-use Rattle.ruby_topology.specs.Search.{mark_at, sum_at}
+use Rattle.ruby_topology.specs.Prelude.{mark_at, sum_at}
 use Rattle.ruby_topology.proofs.paths.sums.Given as goal
 
 abbrev pub invariant-loop-mark : goal.invariant-loop-mark

@@ -1,6 +1,6 @@
 use Rattle.std.proofs.Common.{arith}
-use Rattle.ruby_topology.specs.declared.statement.Statement.TheVariants.{Machine}
-use Rattle.ruby_topology.specs.Topology.{tbes_of}
+use Rattle.ruby_topology.specs.declared.forms.Statement.TheVariants.{Machine}
+use Rattle.ruby_topology.specs.Prelude.{tbes_of}
 use Rattle.ruby_topology.proofs.Steps.{step_filter_map}
 use Rattle.ruby_topology.proofs.routes.all_tbes_of.Goals as goal
 

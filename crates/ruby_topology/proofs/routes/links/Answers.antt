@@ -1,6 +1,6 @@
 use Rattle.std.proofs.Common.{arith}
-use Rattle.ruby_topology.specs.declared.statement.Statement.TheVariants.{Machine}
-use Rattle.ruby_topology.specs.Topology.{link_in}
+use Rattle.ruby_topology.specs.declared.forms.Statement.TheVariants.{Machine}
+use Rattle.ruby_topology.specs.Prelude.{link_in}
 use Rattle.ruby_topology.proofs.Steps.{step_filter_map}
 use Rattle.ruby_topology.proofs.routes.links.Goals as goal
 

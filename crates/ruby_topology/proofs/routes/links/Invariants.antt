@@ -1,6 +1,6 @@
 use Rattle.std.proofs.Common.{◌≡◌, take}
 use Rattle.std.specs.List.{filter_map}
-use Rattle.ruby_topology.specs.Topology.{link_in}
+use Rattle.ruby_topology.specs.Prelude.{link_in}
 use Rattle.ruby_topology.proofs.routes.links.Given as goal
 
 abbrev pub invariant-loop-s : goal.invariant-loop-s

@@ -1,4 +1,4 @@
-use Rattle.ruby_topology.specs.Topology.{is_ordered_on}
+use Rattle.ruby_topology.specs.Prelude.{is_ordered_on}
 use Rattle.ruby_topology.proofs.Steps.{step_map}
 use Rattle.ruby_topology.proofs.routes.ordered.Goals as goal
 

@@ -1,6 +1,6 @@
 use Rattle.std.proofs.Common.{◌≡◌, map, take}
-use Rattle.ruby_topology.specs.declared.statement.Member.{Member}
-use Rattle.ruby_topology.specs.Topology.{receiving_of}
+use Rattle.ruby_topology.specs.declared.forms.Member.{Member}
+use Rattle.ruby_topology.specs.Prelude.{receiving_of}
 use Rattle.ruby_topology.proofs.routes.receiving.Given as goal
 
 abbrev pub invariant-loop-c : goal.invariant-loop-c

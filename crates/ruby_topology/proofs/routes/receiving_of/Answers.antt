@@ -1,4 +1,4 @@
-use Rattle.ruby_topology.specs.Topology.{receiving_at}
+use Rattle.ruby_topology.specs.Prelude.{receiving_at}
 use Rattle.ruby_topology.proofs.Steps.{step_map}
 use Rattle.ruby_topology.proofs.routes.receiving_of.Goals as goal
 

@@ -1,6 +1,6 @@
 use Rattle.std.proofs.Common.{◌≡◌, ◌++◌, drop}
 use Rattle.std.specs.List.{enumerate_from, filter_map}
-use Rattle.ruby_topology.specs.Topology.{seat_of, seats_of}
+use Rattle.ruby_topology.specs.Prelude.{seat_of, seats_of}
 use Rattle.ruby_topology.proofs.routes.seats.Given as goal
 
 abbrev pub invariant-loop-number : goal.invariant-loop-number

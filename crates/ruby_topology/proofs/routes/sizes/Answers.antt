@@ -1,4 +1,4 @@
-use Rattle.ruby_topology.specs.Topology.{sizes_of}
+use Rattle.ruby_topology.specs.Prelude.{sizes_of}
 use Rattle.ruby_topology.proofs.Steps.{step_map}
 use Rattle.ruby_topology.proofs.routes.sizes.Goals as goal
 

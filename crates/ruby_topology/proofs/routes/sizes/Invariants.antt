@@ -1,6 +1,6 @@
 use Rattle.std.proofs.Common.{◌≡◌, map}
 use Rattle.std.specs.List.{range_with_len}
-use Rattle.ruby_topology.specs.Topology.{sizes_of}
+use Rattle.ruby_topology.specs.Prelude.{sizes_of}
 use Rattle.ruby_topology.proofs.routes.sizes.Given as goal
 
 abbrev pub invariant-loop-machine : goal.invariant-loop-machine

@@ -1,5 +1,5 @@
 use Rattle.std.proofs.Common.{arith}
-use Rattle.ruby_topology.specs.declared.statement.Statement.TheVariants.{Machine}
+use Rattle.ruby_topology.specs.declared.forms.Statement.TheVariants.{Machine}
 use Rattle.ruby_topology.specs.Topology.{value_of}
 use Rattle.ruby_topology.proofs.Steps.{step_filter_map}
 use Rattle.ruby_topology.proofs.routes.values_of.Goals as goal

@@ -1,5 +1,5 @@
 use Rattle.std.proofs.Common.{◌≡◌, take, sum_by}
-use Rattle.ruby_topology.specs.Said.{counted}
+use Rattle.ruby_topology.specs.Prelude.{counted}
 use Rattle.ruby_topology.proofs.said.controllers.Given as goal
 
 abbrev pub invariant-loop-s : goal.invariant-loop-s

@@ -1,5 +1,5 @@
 use Rattle.std.proofs.Common.{◌≡◌, drop}
-use Rattle.ruby_topology.specs.Said.{first_some, count_in, count_of}
+use Rattle.ruby_topology.specs.Prelude.{first_some, count_in, count_of}
 use Rattle.ruby_topology.proofs.said.count_of.Given as goal
 
 abbrev pub invariant-loop-s : goal.invariant-loop-s

@@ -1,5 +1,5 @@
 use Rattle.std.proofs.Common.{◌∙◌, ap, is_some}
-use Rattle.ruby_topology.specs.Said.{count_of}
+use Rattle.ruby_topology.specs.Prelude.{count_of}
 use Rattle.ruby_topology.proofs.said.is_said.Goals as goal
 
 pub returns-in-Machine : goal.returns-in-Machine

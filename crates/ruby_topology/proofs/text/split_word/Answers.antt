@@ -1,5 +1,5 @@
 use Rattle.std.proofs.Common.{◌≡◌, ◌∙◌, arith, true, sym, get_or}
-use Rattle.ruby_topology.specs.Text.{is_blank}
+use Rattle.ruby_topology.specs.Prelude.{is_blank}
 use Rattle.ruby_topology.proofs.Texts.{some_before, word_cut, words_none}
 use Rattle.ruby_topology.proofs.text.split_word.Goals as goal
 

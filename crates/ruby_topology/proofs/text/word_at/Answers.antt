@@ -1,6 +1,6 @@
 use Rattle.std.proofs.Common.{◌≡◌, ◌∙◌, ◌+◌, ap, [], drop, get_or, arith}
 use Rattle.std.proofs.lemmas.List.{drop-drop, get_or-drop}
-use Rattle.ruby_topology.specs.Text.{words_of}
+use Rattle.ruby_topology.specs.Prelude.{words_of}
 use Rattle.ruby_topology.proofs.text.word_at.Goals as goal
 
 pub loop-i-preserved : goal.loop-i-preserved

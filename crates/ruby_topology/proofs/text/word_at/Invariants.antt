@@ -1,5 +1,5 @@
 use Rattle.std.proofs.Common.{◌≡◌, ◌<◌, false, get_or, drop, length}
-use Rattle.ruby_topology.specs.Text.{is_blank, words_of}
+use Rattle.ruby_topology.specs.Prelude.{is_blank, words_of}
 use Rattle.ruby_topology.proofs.text.word_at.Given as goal
 
 abbrev pub invariant-loop-i : goal.invariant-loop-i

@@ -1,5 +1,5 @@
 use Rattle.std.proofs.Common.{◌≡◌, ◌+◌, ◌<◌, ◌≤◌, false, get_or, length}
-use Rattle.ruby_topology.specs.Text.{is_blank, words_of}
+use Rattle.ruby_topology.specs.Prelude.{is_blank, words_of}
 use Rattle.ruby_topology.proofs.text.word_count.Given as goal
 
 abbrev pub invariant-loop-rest : goal.invariant-loop-rest

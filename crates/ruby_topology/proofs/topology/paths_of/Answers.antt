@@ -1,5 +1,5 @@
 use Rattle.std.proofs.Common.{◌∙◌, length, refl, subst, sym}
-use Rattle.ruby_topology.specs.Within.{IsNetworkWithin}
+use Rattle.ruby_topology.specs.Prelude.{IsNetworkWithin}
 use Rattle.ruby_topology.proofs.Ends.{between_of, short_of}
 use Rattle.ruby_topology.proofs.Totals.{network_within}
 use Rattle.ruby_topology.proofs.topology.paths_of.Goals as goal

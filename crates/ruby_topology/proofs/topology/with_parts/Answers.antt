@@ -1,7 +1,6 @@
 use Rattle.std.proofs.Common.{List, ap, length, map, subst, ◌∙◌}
-use Rattle.ruby_topology.specs.declared.statement.Member.{Member}
-use Rattle.ruby_topology.specs.Paths.{AreRows}
-use Rattle.ruby_topology.specs.Topology.{HasRoutes, links_of, name_of, network_of}
+use Rattle.ruby_topology.specs.declared.forms.Member.{Member}
+use Rattle.ruby_topology.specs.Prelude.{AreRows, HasRoutes, links_of, name_of, network_of}
 use Rattle.ruby_topology.proofs.topology.with_parts.Goals as goal
 
 pub returns-clause-parts : goal.returns-clause-parts

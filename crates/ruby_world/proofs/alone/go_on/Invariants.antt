@@ -1,5 +1,4 @@
-use Rattle.one_worker.specs.Adds.{HasAddedAlone}
-use Rattle.one_worker.specs.Worlds.{InWorld, IsNobodyHeld}
+use Rattle.one_worker.specs.Prelude.{HasAddedAlone, InWorld, IsNobodyHeld}
 use Rattle.one_worker.proofs.Views.{left_in}
 use Rattle.ruby_world.proofs.alone.go_on.Given as goal
 

@@ -1,7 +1,7 @@
 use Rattle.std.proofs.Common.{◌+◌, ◌∙◌, ap, drop, List, Option, ℕ, map}
 use Rattle.std.specs.BTreeMap.{get}
 use Rattle.run_journal.specs.declared.entry.Entry.{Entry}
-use Rattle.run_journal.specs.LastState.{last_state, next_state}
+use Rattle.run_journal.specs.Prelude.{last_state, next_state}
 use Rattle.run_journal.proofs.FinalStates.{final_at, finals_of_entries, if_listed}
 use Rattle.run_journal.proofs.LastStates.{place_cmp, takes_in, from_here, passes_over, at_end}
 use Rattle.run_journal.proofs.last_states.finals.Goals as goal

@@ -1,7 +1,7 @@
 use Rattle.std.proofs.Common.{◌≡◌, ℕ, drop}
 use Rattle.std.specs.BTreeMap.{get}
 use Rattle.std.specs.List.{filter_map, last_or}
-use Rattle.run_journal.specs.LastState.{last_state, next_state}
+use Rattle.run_journal.specs.Prelude.{last_state, next_state}
 use Rattle.run_journal.proofs.LastStates.{place_cmp}
 use Rattle.run_journal.proofs.last_states.finals.Given as goal
 

@@ -1,5 +1,5 @@
 use Rattle.std.proofs.Common.{◌≡◌, ◌++◌, drop}
-use Rattle.run_journal.specs.PartOf.{part_of}
+use Rattle.run_journal.specs.Prelude.{part_of}
 use Rattle.run_journal.proofs.parts.part.Given as goal
 
 -- what is there and what the rest of the journal gives are the whole part

@@ -1,6 +1,6 @@
 use Rattle.std.proofs.Common.{◌≡◌, false, nat_le}
 use Rattle.std.proofs.lemmas.Bool.{lt-leb}
-use Rattle.body_meaning.specs.Reading.{reading}
+use Rattle.body_meaning.specs.Prelude.{reading}
 use Rattle.scan_walk.proofs.Rounds.{round_is}
 use Rattle.scan_walk.proofs.ports.scan.Goals as goal
 

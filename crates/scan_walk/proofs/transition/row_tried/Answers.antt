@@ -1,5 +1,5 @@
 use Rattle.std.proofs.lemmas.Result.{err_from_is_err_and}
-use Rattle.body_meaning.specs.Reading.{reading}
+use Rattle.body_meaning.specs.Prelude.{reading}
 use Rattle.scan_walk.proofs.Stalls.{row_fires, row_stops, short_waits, stalled_waits}
 use Rattle.scan_walk.proofs.transition.row_tried.Goals as goal
 

@@ -1,5 +1,5 @@
 use Rattle.std.proofs.Common.{◌≡◌, ◌≤◌, drop}
-use Rattle.sequencer.specs.Callbacks.{FitCallbacks, after_callbacks}
+use Rattle.sequencer.specs.Prelude.{FitCallbacks, after_callbacks}
 use Rattle.sequencer.proofs.callbacks.finish_all.Given as goal
 
 abbrev pub invariant-loop-a : goal.invariant-loop-a

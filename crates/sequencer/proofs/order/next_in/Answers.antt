@@ -1,5 +1,5 @@
 use Rattle.std.proofs.Common.{sym, ◌∙◌, arith}
-use Rattle.sequencer.specs.Reads.{is_above}
+use Rattle.sequencer.specs.Prelude.{is_above}
 use Rattle.sequencer.proofs.Oldest.{first-found, none-found}
 use Rattle.sequencer.proofs.order.next_in.Goals as goal
 

@@ -1,6 +1,6 @@
 use Rattle.std.proofs.Common.{◌≡◌, ◌<◌, ℕ, false, get_or}
 use Rattle.ruby_value.specs.declared.asked.Asked.{Asked}
-use Rattle.sequencer.specs.Reads.{is_above}
+use Rattle.sequencer.specs.Prelude.{is_above}
 use Rattle.sequencer.proofs.order.next_in.Given as goal
 
 abbrev pub invariant-loop-a : goal.invariant-loop-a

@@ -1,6 +1,6 @@
 use Rattle.std.proofs.Common.{◌≡◌, ◌≤◌, length, drop}
 use Rattle.std.specs.Option.{option_copied}
-use Rattle.sequencer.specs.Reads.{oldest_of}
+use Rattle.sequencer.specs.Prelude.{oldest_of}
 use Rattle.sequencer.proofs.order.oldest_of.Given as goal
 
 -- the oldest of those from the place on

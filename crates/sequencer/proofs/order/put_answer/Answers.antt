@@ -1,6 +1,6 @@
 use Rattle.std.proofs.Common.{List, sym, subst, ◌∙◌}
 use Rattle.ruby_value.specs.declared.asked.Answer.{Answer}
-use Rattle.sequencer.specs.Kept.{AreAnswers}
+use Rattle.sequencer.specs.Prelude.{AreAnswers}
 use Rattle.sequencer.proofs.Answering.{answers-with}
 use Rattle.sequencer.proofs.order.put_answer.Goals as goal
 

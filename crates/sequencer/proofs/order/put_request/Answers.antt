@@ -1,8 +1,6 @@
 use Rattle.std.proofs.Common.{List, sym, subst, ap, ◌∙◌}
 use Rattle.ruby_value.specs.declared.asked.Asked.{Asked}
-use Rattle.sequencer.specs.Kept.{AreRequests}
-use Rattle.sequencer.specs.Outstanding.{outstanding_of}
-use Rattle.sequencer.specs.Place.{IsPlaceOf}
+use Rattle.sequencer.specs.Prelude.{AreRequests, outstanding_of, IsPlaceOf}
 use Rattle.sequencer.proofs.Lines.{requests-with, outstanding-insert}
 use Rattle.sequencer.proofs.order.put_request.Goals as goal
 

@@ -1,6 +1,5 @@
 use Rattle.std.proofs.Common.{◌<◌, arith, length, subst, ap, ◌∙◌}
-use Rattle.sequencer.specs.Outstanding.{outstanding_of}
-use Rattle.sequencer.specs.Place.{IsPlaceOf}
+use Rattle.sequencer.specs.Prelude.{outstanding_of, IsPlaceOf}
 use Rattle.sequencer.proofs.Lines.{at-place, outstanding-remove, request-taken}
 use Rattle.sequencer.proofs.order.take_request.Goals as goal
 

@@ -1,7 +1,6 @@
 use Rattle.std.proofs.lemmas.List.Elements.{All-from_all_within, All-map, AllWithin-upto}
 use Rattle.sequencer.specs.declared.owned_seat.OwnedSeat.{OwnedSeat}
-use Rattle.sequencer.specs.OwnedSeats.{seat_of}
-use Rattle.sequencer.specs.Seats.{FitsSeat}
+use Rattle.sequencer.specs.Prelude.{seat_of, FitsSeat}
 use Rattle.sequencer.proofs.owned_seats.each_fits.Goals as goal
 
 pub returns : goal.returns

@@ -1,6 +1,5 @@
 use Rattle.std.specs.List.{AllWithin}
-use Rattle.sequencer.specs.OwnedSeats.{seat_of}
-use Rattle.sequencer.specs.Seats.{FitsSeat}
+use Rattle.sequencer.specs.Prelude.{seat_of, FitsSeat}
 use Rattle.sequencer.proofs.owned_seats.each_fits.Given as goal
 
 abbrev pub invariant-loop-seat : goal.invariant-loop-seat

@@ -1,6 +1,6 @@
 use Rattle.std.proofs.Common.{◌<◌, ◌∙◌, length, ap, sym, arith}
 use Rattle.std.proofs.lemmas.List.Elements.{All-get_or, All-set, AllWithin-more_set}
-use Rattle.sequencer.specs.OwnedSeats.{HasRoom, seat_of}
+use Rattle.sequencer.specs.Prelude.{HasRoom, seat_of}
 use Rattle.sequencer.proofs.Owned.{seat-unchanged}
 use Rattle.sequencer.proofs.owned_seats.reserve_each.Goals as goal
 

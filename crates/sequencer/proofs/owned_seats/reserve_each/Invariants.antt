@@ -1,6 +1,6 @@
 use Rattle.std.proofs.Common.{◌≡◌, ℕ}
 use Rattle.std.specs.List.{All, AllWithin}
-use Rattle.sequencer.specs.OwnedSeats.{HasRoom, seats_of}
+use Rattle.sequencer.specs.Prelude.{HasRoom, seats_of}
 use Rattle.sequencer.proofs.owned_seats.reserve_each.Given as goal
 
 abbrev pub invariant-loop-seat : goal.invariant-loop-seat

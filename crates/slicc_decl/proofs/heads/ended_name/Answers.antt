@@ -1,4 +1,5 @@
-use Rattle.slicc_ast.specs.Parts.{◌▸◌, pairs, sign}
+use Rattle.slicc_ast.specs.Parts.{pairs, sign}
+use Rattle.slicc_ast.specs.Prelude.{◌▸◌}
 use Rattle.slicc_reading.proofs.Parts.{◌then◌, as_part, at_first, behind}
 use Rattle.slicc_decl.proofs.heads.ended_name.Goals as goal
 

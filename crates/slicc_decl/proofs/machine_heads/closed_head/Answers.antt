@@ -1,5 +1,6 @@
 use Rattle.slicc_ast.specs.declared.tree.token.Sign.TheVariants.{CloseParenthesis}
-use Rattle.slicc_ast.specs.Parts.{◌▸◌, comma, pairs, sign, string}
+use Rattle.slicc_ast.specs.Parts.{pairs, sign}
+use Rattle.slicc_ast.specs.Prelude.{◌▸◌, comma, string}
 use Rattle.slicc_reading.proofs.Parts.{◌then◌, at_first, behind}
 use Rattle.slicc_decl.proofs.machine_heads.closed_head.Goals as goal
 

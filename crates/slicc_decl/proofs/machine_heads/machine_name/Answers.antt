@@ -1,8 +1,6 @@
 use Rattle.std.proofs.Common.{◌∷◌, [], refl, sym}
-use Rattle.slicc_ast.specs.Grammar.Row.{done}
-use Rattle.slicc_ast.specs.Form.Form.{machine_name}
-use Rattle.slicc_ast.specs.Parts.{◌▸◌, colon, name, of}
-use Rattle.slicc_ast.specs.TokenKinds.{functional_name, machine_type, other_name}
+use Rattle.slicc_ast.specs.Prelude.{done, machine_name, ◌▸◌, colon, of, functional_name, machine_type, other_name}
+use Rattle.slicc_ast.specs.Parts.{name}
 use Rattle.slicc_reading.proofs.Choices.{absent, present, fault_in_present}
 use Rattle.slicc_reading.proofs.Parts.{◌then◌, as_part, at_no_alternative, behind, by_alternative, in_alternative}
 use Rattle.slicc_decl.proofs.NameKinds.{narrowed, only_memory, other_ahead, type_token}

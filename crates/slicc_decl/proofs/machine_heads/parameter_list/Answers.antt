@@ -1,8 +1,7 @@
 use Rattle.std.proofs.Common.{sym}
-use Rattle.slicc_ast.specs.Machines.{parameter_list}
+use Rattle.slicc_ast.specs.Prelude.{parameter_list, of}
 use Rattle.slicc_ast.specs.Form.Form.{parameter}
-use Rattle.slicc_ast.specs.Parts.{of}
-use Rattle.slicc_reading.specs.Reading.Refuses.{no_memory}
+use Rattle.slicc_reading.specs.Prelude.{no_memory}
 use Rattle.slicc_reading.proofs.Parts.{as_part}
 use Rattle.slicc_decl.proofs.Lists.{each_parameter, parameter_parts}
 use Rattle.slicc_reading.proofs.Repeats.{none_yet, one_more, fault_in_one, all_read}

@@ -1,6 +1,6 @@
 use Rattle.std.proofs.Common.{length}
 use Rattle.slicc_ast.specs.Form.Form.{parameter}
-use Rattle.slicc_ast.specs.Parts.{of}
+use Rattle.slicc_ast.specs.Prelude.{of}
 use Rattle.slicc_decl.proofs.Lists.{parameter_parts}
 use Rattle.slicc_reading.proofs.Repeats.{AreRepeated}
 use Rattle.slicc_decl.proofs.machine_heads.parameter_list.Given as goal

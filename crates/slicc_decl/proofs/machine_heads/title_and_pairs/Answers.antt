@@ -1,5 +1,6 @@
 use Rattle.slicc_ast.specs.declared.tree.token.Sign.TheVariants.{CloseParenthesis}
-use Rattle.slicc_ast.specs.Parts.{◌▸◌, pairs, sign, string}
+use Rattle.slicc_ast.specs.Parts.{pairs, sign}
+use Rattle.slicc_ast.specs.Prelude.{◌▸◌, string}
 use Rattle.slicc_reading.proofs.Parts.{◌then◌, at_first, behind}
 use Rattle.slicc_decl.proofs.machine_heads.title_and_pairs.Goals as goal
 

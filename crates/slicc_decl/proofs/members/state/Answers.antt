@@ -1,4 +1,5 @@
-use Rattle.slicc_ast.specs.Parts.{◌▸◌, colon, name, pairs, semicolon}
+use Rattle.slicc_ast.specs.Parts.{name, pairs}
+use Rattle.slicc_ast.specs.Prelude.{◌▸◌, colon, semicolon}
 use Rattle.slicc_reading.proofs.Parts.{◌then◌, at_first, behind}
 use Rattle.slicc_decl.proofs.members.state.Goals as goal
 

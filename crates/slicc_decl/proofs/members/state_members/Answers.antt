@@ -1,10 +1,10 @@
 use Rattle.std.proofs.Common.{sym}
-use Rattle.slicc_ast.specs.Declarations.{state_list}
+use Rattle.slicc_ast.specs.Prelude.{state_list, repeated}
 use Rattle.slicc_ast.specs.declared.tree.token.Sign.TheVariants.{CloseBrace}
-use Rattle.slicc_ast.specs.Parts.{repeated, sign}
+use Rattle.slicc_ast.specs.Parts.{sign}
 use Rattle.slicc_reading.proofs.GoingOn.{of_read, of_value, on_fault}
 use Rattle.slicc_reading.proofs.Parts.{at_first}
-use Rattle.slicc_decl.specs.Members.{state_parts, state_row}
+use Rattle.slicc_decl.specs.Prelude.{state_parts, state_row}
 use Rattle.slicc_decl.proofs.Lists.{each_state}
 use Rattle.slicc_reading.proofs.Repeats.{none_yet, one_more, fault_in_one, all_read}
 use Rattle.slicc_decl.proofs.members.state_members.Goals as goal

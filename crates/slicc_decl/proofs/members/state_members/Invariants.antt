@@ -1,5 +1,5 @@
 use Rattle.std.proofs.Common.{length}
-use Rattle.slicc_decl.specs.Members.{state_parts, state_row}
+use Rattle.slicc_decl.specs.Prelude.{state_parts, state_row}
 use Rattle.slicc_reading.proofs.Repeats.{AreRepeated}
 use Rattle.slicc_decl.proofs.members.state_members.Given as goal
 

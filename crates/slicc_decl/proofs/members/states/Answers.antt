@@ -1,8 +1,9 @@
 use Rattle.std.proofs.Common.{refl, sym}
 use Rattle.slicc_ast.specs.Form.Form.{states}
-use Rattle.slicc_ast.specs.Parts.{◌▸◌, braces, name, pairs, parentheses, repeated}
+use Rattle.slicc_ast.specs.Parts.{name, pairs}
+use Rattle.slicc_ast.specs.Prelude.{◌▸◌, braces, parentheses, repeated}
 use Rattle.slicc_reading.proofs.Parts.{◌then◌, as_node, at_first, at_no_alternative, behind, in_alternative, of_alternative}
-use Rattle.slicc_decl.specs.Members.{state_row}
+use Rattle.slicc_decl.specs.Prelude.{state_row}
 use Rattle.slicc_decl.proofs.members.states.Goals as goal
 
 pub returns-then-not-is_word : goal.returns-then-not-is_word

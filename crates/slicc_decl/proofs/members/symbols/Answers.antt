@@ -1,10 +1,10 @@
 use Rattle.std.proofs.Common.{sym}
-use Rattle.slicc_ast.specs.Declarations.{symbol_list}
+use Rattle.slicc_ast.specs.Prelude.{symbol_list, repeated}
 use Rattle.slicc_ast.specs.declared.tree.token.Sign.TheVariants.{CloseBrace}
-use Rattle.slicc_ast.specs.Parts.{repeated, sign}
-use Rattle.slicc_reading.specs.Reading.Refuses.{no_memory}
+use Rattle.slicc_ast.specs.Parts.{sign}
+use Rattle.slicc_reading.specs.Prelude.{no_memory}
 use Rattle.slicc_reading.proofs.Parts.{at_first}
-use Rattle.slicc_decl.specs.Members.{symbol_parts, symbol_row}
+use Rattle.slicc_decl.specs.Prelude.{symbol_parts, symbol_row}
 use Rattle.slicc_decl.proofs.Lists.{each_symbol}
 use Rattle.slicc_reading.proofs.Repeats.{none_yet, one_more, fault_in_one, all_read}
 use Rattle.slicc_decl.proofs.members.symbols.Goals as goal

@@ -1,5 +1,5 @@
 use Rattle.std.proofs.Common.{length}
-use Rattle.slicc_decl.specs.Members.{symbol_parts, symbol_row}
+use Rattle.slicc_decl.specs.Prelude.{symbol_parts, symbol_row}
 use Rattle.slicc_reading.proofs.Repeats.{AreRepeated}
 use Rattle.slicc_decl.proofs.members.symbols.Given as goal
 

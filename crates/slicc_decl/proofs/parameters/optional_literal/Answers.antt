@@ -1,7 +1,6 @@
 use Rattle.std.proofs.Common.{sym}
-use Rattle.slicc_ast.specs.Grammar.Row.{done}
+use Rattle.slicc_ast.specs.Prelude.{done, ◌▸◌, assign, of}
 use Rattle.slicc_ast.specs.Form.Form.{literal}
-use Rattle.slicc_ast.specs.Parts.{◌▸◌, assign, of}
 use Rattle.slicc_reading.proofs.Choices.{absent, present, fault_in_present}
 use Rattle.slicc_decl.proofs.parameters.optional_literal.Goals as goal
 

@@ -1,6 +1,7 @@
 use Rattle.std.proofs.Common.{◌≤◌, ◌<◌, length, arith, refl, sym}
 use Rattle.slicc_ast.specs.Form.Form.{literal, parameter}
-use Rattle.slicc_ast.specs.Parts.{◌▸◌, assign, name, of, optional, pairs, semicolon}
+use Rattle.slicc_ast.specs.Parts.{name, pairs}
+use Rattle.slicc_ast.specs.Prelude.{◌▸◌, assign, of, optional, semicolon}
 use Rattle.slicc_reading.proofs.Parts.{◌then◌, as_node, at_first, at_no_alternative, behind, in_alternative, of_alternative}
 use Rattle.slicc_decl.proofs.parameters.parameter.Goals as goal
 

@@ -1,5 +1,6 @@
 use Rattle.slicc_ast.specs.Form.Form.{literal}
-use Rattle.slicc_ast.specs.Parts.{◌▸◌, assign, of, optional, pairs, semicolon}
+use Rattle.slicc_ast.specs.Parts.{pairs}
+use Rattle.slicc_ast.specs.Prelude.{◌▸◌, assign, of, optional, semicolon}
 use Rattle.slicc_reading.proofs.Parts.{◌then◌, as_part, at_first, behind}
 use Rattle.slicc_decl.proofs.parameters.parameter_end.Goals as goal
 

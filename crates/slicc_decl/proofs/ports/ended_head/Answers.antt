@@ -1,4 +1,4 @@
-use Rattle.slicc_ast.specs.Parts.{semicolon}
+use Rattle.slicc_ast.specs.Prelude.{semicolon}
 use Rattle.slicc_reading.proofs.Parts.{◌then◌, at_first, behind}
 use Rattle.slicc_decl.proofs.ports.ended_head.Goals as goal
 

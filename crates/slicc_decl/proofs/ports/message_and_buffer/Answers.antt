@@ -1,5 +1,6 @@
 use Rattle.slicc_ast.specs.declared.tree.token.Sign.TheVariants.{CloseParenthesis}
-use Rattle.slicc_ast.specs.Parts.{◌▸◌, name, pairs, sign}
+use Rattle.slicc_ast.specs.Parts.{name, pairs, sign}
+use Rattle.slicc_ast.specs.Prelude.{◌▸◌}
 use Rattle.slicc_reading.proofs.Parts.{◌then◌, at_first, behind}
 use Rattle.slicc_decl.proofs.ports.message_and_buffer.Goals as goal
 

@@ -1,6 +1,7 @@
 use Rattle.std.proofs.Common.{refl, sym}
 use Rattle.slicc_ast.specs.Form.Form.{out_port}
-use Rattle.slicc_ast.specs.Parts.{◌▸◌, comma, name, pairs, parentheses, semicolon, type}
+use Rattle.slicc_ast.specs.Parts.{name, pairs}
+use Rattle.slicc_ast.specs.Prelude.{◌▸◌, comma, parentheses, semicolon, type}
 use Rattle.slicc_reading.proofs.Parts.{◌then◌, as_node, at_first, at_no_alternative, behind, in_alternative, of_alternative}
 use Rattle.slicc_decl.proofs.ports.out_port.Goals as goal
 

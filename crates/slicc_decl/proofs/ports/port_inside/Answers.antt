@@ -1,5 +1,6 @@
 use Rattle.slicc_ast.specs.declared.tree.token.Sign.TheVariants.{CloseParenthesis}
-use Rattle.slicc_ast.specs.Parts.{◌▸◌, comma, name, pairs, sign, type}
+use Rattle.slicc_ast.specs.Parts.{name, pairs, sign}
+use Rattle.slicc_ast.specs.Prelude.{◌▸◌, comma, type}
 use Rattle.slicc_reading.proofs.Parts.{◌then◌, at_first, behind}
 use Rattle.slicc_decl.proofs.ports.port_inside.Goals as goal
 

@@ -1,4 +1,4 @@
-use Rattle.slicc_ast.specs.Parts.{comma}
+use Rattle.slicc_ast.specs.Prelude.{comma}
 use Rattle.slicc_reading.proofs.Parts.{◌then◌, as_part, at_first, behind}
 use Rattle.slicc_decl.proofs.ports.type_and_comma.Goals as goal
 

@@ -1,6 +1,7 @@
 use Rattle.std.proofs.Common.{◌≤◌, ◌<◌, length, arith, refl, sym}
 use Rattle.slicc_ast.specs.Form.Form.{formal}
-use Rattle.slicc_ast.specs.Parts.{name, optional}
+use Rattle.slicc_ast.specs.Parts.{name}
+use Rattle.slicc_ast.specs.Prelude.{optional}
 use Rattle.slicc_reading.proofs.Parts.{◌then◌, as_node, at_first, at_no_alternative, behind, in_alternative, of_alternative}
 use Rattle.slicc_decl.proofs.signatures.formal.Goals as goal
 

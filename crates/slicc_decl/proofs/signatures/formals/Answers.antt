@@ -1,10 +1,9 @@
-use Rattle.slicc_ast.specs.Declarations.{formal_list}
+use Rattle.slicc_ast.specs.Prelude.{formal_list, Parts, node, part, ◌▸◌, of, optional}
 use Rattle.slicc_ast.specs.Names.{sign as sign_of}
-use Rattle.slicc_ast.specs.Outline.{Parts, node, part}
 use Rattle.slicc_ast.specs.declared.tree.declaration.Formals.{Formals}
 use Rattle.slicc_ast.specs.declared.tree.token.Sign.TheVariants.{CloseParenthesis}
 use Rattle.slicc_ast.specs.Form.Form.{formals}
-use Rattle.slicc_ast.specs.Parts.{◌▸◌, of, optional, sign}
+use Rattle.slicc_ast.specs.Parts.{sign}
 use Rattle.slicc_reading.proofs.GoingOn.{nests}
 use Rattle.slicc_reading.proofs.Parts.{as_part, match_map}
 use Rattle.slicc_decl.proofs.signatures.formals.Goals as goal

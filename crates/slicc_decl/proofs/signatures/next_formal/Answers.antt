@@ -1,5 +1,5 @@
 use Rattle.slicc_ast.specs.Form.Form.{formal}
-use Rattle.slicc_ast.specs.Parts.{of}
+use Rattle.slicc_ast.specs.Prelude.{of}
 use Rattle.slicc_reading.proofs.Parts.{◌then◌, as_part, at_first, behind, match_map}
 use Rattle.slicc_decl.proofs.signatures.next_formal.Goals as goal
 

@@ -1,8 +1,7 @@
 use Rattle.std.proofs.Common.{refl, sym}
-use Rattle.slicc_ast.specs.Grammar.Row.{done}
+use Rattle.slicc_ast.specs.Prelude.{done, of}
 use Rattle.slicc_ast.specs.Form.Form.{formals}
-use Rattle.slicc_ast.specs.Parts.{of}
-use Rattle.slicc_reading.specs.Reading.IsNode.{spelled}
+use Rattle.slicc_reading.specs.Prelude.{spelled}
 use Rattle.slicc_reading.proofs.Choices.{absent_read, present_read, fault_in_present}
 use Rattle.slicc_reading.proofs.Parts.{in_alternative, match_map, of_alternative}
 use Rattle.slicc_decl.proofs.Lists.{no_formals}

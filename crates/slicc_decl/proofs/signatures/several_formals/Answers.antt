@@ -1,9 +1,7 @@
 use Rattle.std.proofs.Common.{ap, sym}
-use Rattle.slicc_ast.specs.Declarations.{formal_list}
-use Rattle.slicc_ast.specs.Outline.{node}
+use Rattle.slicc_ast.specs.Prelude.{formal_list, node, ◌▸◌, comma, of, repeated}
 use Rattle.slicc_ast.specs.Form.Form.{formal}
-use Rattle.slicc_ast.specs.Parts.{◌▸◌, comma, of, repeated}
-use Rattle.slicc_reading.specs.Reading.Refuses.{no_memory}
+use Rattle.slicc_reading.specs.Prelude.{no_memory}
 use Rattle.slicc_reading.proofs.GoingOn.{of_read, of_value, on_fault}
 use Rattle.slicc_reading.proofs.Parts.{as_node, as_part, as_tree, at_first}
 use Rattle.slicc_decl.proofs.Lists.{each_formal, formals_onto, formals_onto_none, further_formal}

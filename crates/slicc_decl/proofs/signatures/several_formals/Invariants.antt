@@ -1,6 +1,6 @@
 use Rattle.std.proofs.Common.{length}
 use Rattle.slicc_ast.specs.Form.Form.{formal}
-use Rattle.slicc_ast.specs.Parts.{◌▸◌, comma, of}
+use Rattle.slicc_ast.specs.Prelude.{◌▸◌, comma, of}
 use Rattle.slicc_decl.proofs.Lists.{first_formal, further_formal}
 use Rattle.slicc_reading.proofs.Repeats.{AreSeparated}
 use Rattle.slicc_decl.proofs.signatures.several_formals.Given as goal

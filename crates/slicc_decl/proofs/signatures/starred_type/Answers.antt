@@ -1,5 +1,6 @@
 use Rattle.std.proofs.Common.{◌≤◌, ◌<◌, length, arith}
-use Rattle.slicc_ast.specs.Parts.{optional, star}
+use Rattle.slicc_ast.specs.Parts.{star}
+use Rattle.slicc_ast.specs.Prelude.{optional}
 use Rattle.slicc_reading.proofs.Parts.{◌then◌, as_part, at_first, behind}
 use Rattle.slicc_decl.proofs.signatures.starred_type.Goals as goal
 

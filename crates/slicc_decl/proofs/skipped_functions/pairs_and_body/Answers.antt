@@ -1,4 +1,5 @@
-use Rattle.slicc_ast.specs.Parts.{balanced, braces}
+use Rattle.slicc_ast.specs.Parts.{balanced}
+use Rattle.slicc_ast.specs.Prelude.{braces}
 use Rattle.slicc_reading.proofs.Parts.{◌then◌, as_part, at_first, behind}
 use Rattle.slicc_decl.proofs.skipped_functions.pairs_and_body.Goals as goal
 

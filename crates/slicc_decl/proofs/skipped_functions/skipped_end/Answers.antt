@@ -1,4 +1,5 @@
-use Rattle.slicc_ast.specs.Parts.{◌▸◌, balanced, braces, pairs}
+use Rattle.slicc_ast.specs.Parts.{balanced, pairs}
+use Rattle.slicc_ast.specs.Prelude.{◌▸◌, braces}
 use Rattle.slicc_reading.proofs.Parts.{◌then◌, at_first, behind}
 use Rattle.slicc_decl.proofs.skipped_functions.skipped_end.Goals as goal
 

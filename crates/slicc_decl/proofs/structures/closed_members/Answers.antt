@@ -1,8 +1,8 @@
 use Rattle.std.proofs.Common.{sym}
-use Rattle.slicc_ast.specs.Declarations.{member_list}
+use Rattle.slicc_ast.specs.Prelude.{member_list, of, repeated}
 use Rattle.slicc_ast.specs.declared.tree.token.Sign.TheVariants.{CloseBrace}
 use Rattle.slicc_ast.specs.Form.Form.{member}
-use Rattle.slicc_ast.specs.Parts.{of, repeated, sign}
+use Rattle.slicc_ast.specs.Parts.{sign}
 use Rattle.slicc_reading.proofs.GoingOn.{of_read, of_value, on_fault}
 use Rattle.slicc_reading.proofs.Parts.{as_part, at_first}
 use Rattle.slicc_decl.proofs.Lists.{each_member, member_parts}

@@ -1,6 +1,6 @@
 use Rattle.std.proofs.Common.{length}
 use Rattle.slicc_ast.specs.Form.Form.{member}
-use Rattle.slicc_ast.specs.Parts.{of}
+use Rattle.slicc_ast.specs.Prelude.{of}
 use Rattle.slicc_decl.proofs.Lists.{member_parts}
 use Rattle.slicc_reading.proofs.Repeats.{AreRepeated}
 use Rattle.slicc_decl.proofs.structures.closed_members.Given as goal

@@ -1,6 +1,6 @@
 use Rattle.std.proofs.Common.{refl, sym}
-use Rattle.slicc_ast.specs.Form.Form.{member, member_end}
-use Rattle.slicc_ast.specs.Parts.{of}
+use Rattle.slicc_ast.specs.Form.Form.{member}
+use Rattle.slicc_ast.specs.Prelude.{member_end, of}
 use Rattle.slicc_reading.proofs.Parts.{at_first, at_no_alternative, behind_read, in_alternative, match_map, of_alternative, read_behind}
 use Rattle.slicc_decl.proofs.structures.member.Goals as goal
 

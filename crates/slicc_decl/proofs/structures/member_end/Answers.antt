@@ -1,5 +1,5 @@
 use Rattle.std.proofs.Common.{refl, sym}
-use Rattle.slicc_ast.specs.Form.Form.{member_end}
+use Rattle.slicc_ast.specs.Prelude.{member_end}
 use Rattle.slicc_reading.proofs.Parts.{at_no_alternative, in_alternative, match_map, of_alternative}
 use Rattle.slicc_decl.proofs.NameKinds.{plain_ahead}
 use Rattle.slicc_decl.proofs.structures.member_end.Goals as goal

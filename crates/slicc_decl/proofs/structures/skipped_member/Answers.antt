@@ -1,7 +1,5 @@
 use Rattle.std.proofs.Common.{◌∷◌, []}
-use Rattle.slicc_ast.specs.Form.Form.{functional_end}
-use Rattle.slicc_ast.specs.Parts.{◌▸◌, of, skipped_name}
-use Rattle.slicc_ast.specs.TokenKinds.{functional_name}
+use Rattle.slicc_ast.specs.Prelude.{functional_end, ◌▸◌, of, skipped_name, functional_name}
 use Rattle.slicc_reading.proofs.Parts.{behind_read, match_map, read_behind}
 use Rattle.slicc_decl.proofs.NameKinds.{is_skipped_text, narrowed, only_memory, skipped_is_name}
 use Rattle.slicc_decl.proofs.structures.skipped_member.Goals as goal

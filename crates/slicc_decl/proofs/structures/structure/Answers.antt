@@ -1,6 +1,7 @@
 use Rattle.std.proofs.Common.{refl, sym}
 use Rattle.slicc_ast.specs.Form.Form.{member, structure}
-use Rattle.slicc_ast.specs.Parts.{◌▸◌, braces, name, of, pairs, parentheses, repeated}
+use Rattle.slicc_ast.specs.Parts.{name, pairs}
+use Rattle.slicc_ast.specs.Prelude.{◌▸◌, braces, of, parentheses, repeated}
 use Rattle.slicc_reading.proofs.Parts.{◌then◌, as_node, at_first, at_no_alternative, behind, in_alternative, of_alternative}
 use Rattle.slicc_decl.proofs.structures.structure.Goals as goal
 

@@ -1,5 +1,5 @@
 use Rattle.std.proofs.Common.{length}
-use Rattle.slicc_decl.specs.Members.{action_parts, action_row}
+use Rattle.slicc_decl.specs.Prelude.{action_parts, action_row}
 use Rattle.slicc_reading.proofs.Repeats.{AreRepeated}
 use Rattle.slicc_decl.proofs.transitions.actions.Given as goal
 

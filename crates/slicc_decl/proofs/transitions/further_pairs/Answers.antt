@@ -1,10 +1,9 @@
 use Rattle.std.proofs.Common.{sym}
-use Rattle.slicc_ast.specs.Declarations.{pair_list}
+use Rattle.slicc_ast.specs.Prelude.{pair_list, ◌▸◌, comma, of}
 use Rattle.slicc_ast.specs.Form.Form.{pair}
-use Rattle.slicc_ast.specs.Parts.{◌▸◌, comma, of}
-use Rattle.slicc_reading.specs.Reading.Refuses.{no_memory}
+use Rattle.slicc_reading.specs.Prelude.{no_memory}
 use Rattle.slicc_reading.proofs.GoingOn.{of_read, of_value, on_fault}
-use Rattle.slicc_decl.specs.Members.{pair_parts}
+use Rattle.slicc_decl.specs.Prelude.{pair_parts}
 use Rattle.slicc_decl.proofs.Lists.{each_pair}
 use Rattle.slicc_reading.proofs.Repeats.{all_from, fault_in_one, one_before, one_more}
 use Rattle.slicc_decl.proofs.transitions.further_pairs.Goals as goal

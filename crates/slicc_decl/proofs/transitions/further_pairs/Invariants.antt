@@ -1,7 +1,7 @@
 use Rattle.std.proofs.Common.{length}
 use Rattle.slicc_ast.specs.Form.Form.{pair}
-use Rattle.slicc_ast.specs.Parts.{◌▸◌, comma, of}
-use Rattle.slicc_decl.specs.Members.{pair_parts}
+use Rattle.slicc_ast.specs.Prelude.{◌▸◌, comma, of}
+use Rattle.slicc_decl.specs.Prelude.{pair_parts}
 use Rattle.slicc_reading.proofs.Repeats.{AreRepeated}
 use Rattle.slicc_decl.proofs.transitions.further_pairs.Given as goal
 

@@ -1,7 +1,5 @@
 use Rattle.std.proofs.Common.{sym}
-use Rattle.slicc_ast.specs.Grammar.Row.{done}
-use Rattle.slicc_ast.specs.Form.Form.{transition_end}
-use Rattle.slicc_ast.specs.Parts.{◌▸◌, comma, of}
+use Rattle.slicc_ast.specs.Prelude.{done, transition_end, ◌▸◌, comma, of}
 use Rattle.slicc_reading.proofs.Choices.{absent_read, present, fault_in_present}
 use Rattle.slicc_reading.proofs.Parts.{as_part, at_first, match_map}
 use Rattle.slicc_reading.proofs.Behind.{no_pairs}

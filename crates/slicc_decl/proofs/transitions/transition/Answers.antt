@@ -1,8 +1,8 @@
 use Rattle.std.proofs.Common.{refl, sym}
 use Rattle.slicc_ast.specs.Form.Form.{transition}
-use Rattle.slicc_ast.specs.Parts.{◌▸◌, braces, parentheses, repeated}
+use Rattle.slicc_ast.specs.Prelude.{◌▸◌, braces, parentheses, repeated}
 use Rattle.slicc_reading.proofs.Parts.{◌then◌, as_node, at_first, at_no_alternative, behind, in_alternative, of_alternative}
-use Rattle.slicc_decl.specs.Members.{action_row, transition_inside}
+use Rattle.slicc_decl.specs.Prelude.{action_row, transition_inside}
 use Rattle.slicc_decl.proofs.transitions.transition.Goals as goal
 
 pub returns-then-not-is_word : goal.returns-then-not-is_word

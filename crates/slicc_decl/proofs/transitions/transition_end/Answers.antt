@@ -1,9 +1,7 @@
 use Rattle.std.proofs.Common.{◌∷◌, [], refl, sym}
-use Rattle.slicc_ast.specs.Grammar.Row.{done}
+use Rattle.slicc_ast.specs.Prelude.{done, transition_end, ◌▸◌, names_of, optional, value, quoted}
 use Rattle.slicc_ast.specs.declared.tree.token.Sign.TheVariants.{Equals}
-use Rattle.slicc_ast.specs.Form.Form.{transition_end}
-use Rattle.slicc_ast.specs.Parts.{◌▸◌, names_of, optional, pairs, sign, value}
-use Rattle.slicc_ast.specs.TokenKinds.{quoted}
+use Rattle.slicc_ast.specs.Parts.{pairs, sign}
 use Rattle.slicc_reading.proofs.Choices.{absent}
 use Rattle.slicc_reading.proofs.Parts.{◌then◌, as_part, at_first, at_no_alternative, behind, by_alternative, in_alternative, of_alternative}
 use Rattle.slicc_reading.proofs.Behind.{from_start, goes_on}

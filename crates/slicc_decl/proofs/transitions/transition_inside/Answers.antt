@@ -1,6 +1,6 @@
 use Rattle.slicc_ast.specs.Machines.{names as names_of}
-use Rattle.slicc_ast.specs.Form.Form.{names, transition_end}
-use Rattle.slicc_ast.specs.Parts.{◌▸◌, comma, of, optional}
+use Rattle.slicc_ast.specs.Form.Form.{names}
+use Rattle.slicc_ast.specs.Prelude.{transition_end, ◌▸◌, comma, of, optional}
 use Rattle.slicc_reading.proofs.Parts.{◌then◌, at_first, behind}
 use Rattle.slicc_decl.proofs.transitions.transition_inside.Goals as goal
 

@@ -1,16 +1,15 @@
 use Rattle.std.proofs.Common.{refl, sym, ◌<◌, length, arith, rules}
-use Rattle.slicc_ast.specs.Grammar.Row.{done}
+use Rattle.slicc_ast.specs.Prelude.{done, stmt_list, Form, ◌▸◌, of, repeated}
 use Rattle.slicc_ast.specs.declared.tree.token.Sign.TheVariants.{CloseBrace}
 use Rattle.slicc_ast.specs.Names.{word as word_of}
-use Rattle.slicc_ast.specs.Statements.{block, stmt_list}
-use Rattle.slicc_ast.specs.Form.{Form}
-use Rattle.slicc_ast.specs.Parts.{◌▸◌, of, repeated, sign, word}
-use Rattle.slicc_reading.specs.Reading.Refuses.{no_memory}
+use Rattle.slicc_ast.specs.Statements.{block}
+use Rattle.slicc_ast.specs.Parts.{sign, word}
+use Rattle.slicc_reading.specs.Prelude.{no_memory}
 use Rattle.slicc_reading.proofs.Parts.{◌then◌, as_node, as_part, as_tree, at_first, at_no_alternative, behind, in_alternative, match_map, of_alternative}
 use Rattle.slicc_reading.proofs.Choices.{absent, fault_in_nesting, fault_in_present, in_nesting, present}
 use Rattle.slicc_reading.proofs.GoingOn.{fewer, fewer_still, of_read, of_value, on_fault}
 use Rattle.slicc_reading.proofs.Repeats.{all_read, fault_in_one, none_yet, one_more}
-use Rattle.slicc_expr.specs.StatementParts.{branch, branch_parts, branches_end, condition_parts, enqueue_head, enqueue_head_parts, other_branches_parts, peek_head, peek_head_parts}
+use Rattle.slicc_expr.specs.Prelude.{branch, branch_parts, branches_end, condition_parts, enqueue_head, enqueue_head_parts, other_branches_parts, peek_head, peek_head_parts}
 use Rattle.slicc_expr.proofs.Branches.{all_branches, calling_ahead, each_stmt, enqueue_ahead, enqueue_outline, fault_in_else_if, fault_on, if_is, no_else_if, no_if, no_otherwise, one_else_if, peek_outline, read_tree, stmt_parts}
 use Rattle.slicc_ast.specs.declared.tree.statement.Stmt.TheViews.{the_lemmas}
 use Rattle.slicc_ast.specs.declared.tree.token.Word.TheVariants.{Else, If}

@@ -1,9 +1,8 @@
 -- How deep the cycle of functions goes: each call has fewer tokens left, or comes later in this order.
 use Rattle.std.proofs.Common.{◌+◌, ◌*◌, length}
-use Rattle.slicc_ast.specs.Form.{Form}
-use Rattle.slicc_ast.specs.Parts.{of}
+use Rattle.slicc_ast.specs.Prelude.{Form, of}
 use Rattle.slicc_reading.proofs.Repeats.{AreRepeated}
-use Rattle.slicc_expr.specs.StatementParts.{AreElseIfs}
+use Rattle.slicc_expr.specs.Prelude.{AreElseIfs}
 use Rattle.slicc_expr.proofs.Branches.{stmt_parts}
 use Rattle.slicc_expr.proofs.blocks.+block.Given as goal
 

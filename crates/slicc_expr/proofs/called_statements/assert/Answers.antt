@@ -1,6 +1,5 @@
 use Rattle.std.proofs.Common.{◌<◌, length, arith}
-use Rattle.slicc_ast.specs.Form.Form.{expression}
-use Rattle.slicc_ast.specs.Parts.{of, semicolon}
+use Rattle.slicc_ast.specs.Prelude.{expression, of, semicolon}
 use Rattle.slicc_expr.proofs.Loops.{expr_parts}
 use Rattle.slicc_reading.proofs.GoingOn.{weaker}
 use Rattle.slicc_reading.proofs.Parts.{as_node, as_part, at_first, match_map}

@@ -1,5 +1,5 @@
 use Rattle.std.proofs.Common.{refl, sym}
-use Rattle.slicc_ast.specs.Form.{Form}
+use Rattle.slicc_ast.specs.Prelude.{Form}
 use Rattle.slicc_reading.proofs.Parts.{in_alternative, match_map, of_alternative}
 use Rattle.slicc_expr.proofs.StatementForms.{print_ahead}
 use Rattle.slicc_expr.proofs.called_statements.called_statement.Goals as goal

@@ -1,6 +1,7 @@
 use Rattle.std.proofs.Common.{◌<◌, length, arith}
 use Rattle.slicc_ast.specs.Names.{name as name_parts}
-use Rattle.slicc_ast.specs.Parts.{name, semicolon}
+use Rattle.slicc_ast.specs.Parts.{name}
+use Rattle.slicc_ast.specs.Prelude.{semicolon}
 use Rattle.slicc_reading.proofs.GoingOn.{weaker}
 use Rattle.slicc_reading.proofs.Parts.{as_node, as_part, at_first, match_map}
 use Rattle.slicc_expr.proofs.called_statements.check_allocate.Goals as goal

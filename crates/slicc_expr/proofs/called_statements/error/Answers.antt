@@ -1,5 +1,5 @@
 use Rattle.std.proofs.Common.{◌<◌, length, arith}
-use Rattle.slicc_ast.specs.Parts.{semicolon, string}
+use Rattle.slicc_ast.specs.Prelude.{semicolon, string}
 use Rattle.slicc_expr.proofs.StatementForms.{text_parts}
 use Rattle.slicc_reading.proofs.GoingOn.{weaker}
 use Rattle.slicc_reading.proofs.Parts.{as_node, at_first}

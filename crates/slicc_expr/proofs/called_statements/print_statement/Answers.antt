@@ -1,6 +1,6 @@
 use Rattle.std.proofs.Common.{◌<◌, length, arith}
 use Rattle.slicc_ast.specs.declared.tree.token.Sign.TheVariants.{CloseParenthesis, OpenParenthesis}
-use Rattle.slicc_reading.specs.Brackets.{bracketed, bracketed_parts}
+use Rattle.slicc_reading.specs.Prelude.{bracketed, bracketed_parts}
 use Rattle.slicc_reading.proofs.GoingOn.{weaker}
 use Rattle.slicc_reading.proofs.Parts.{◌then◌, as_node, at_first, behind}
 use Rattle.slicc_expr.proofs.called_statements.print_statement.Goals as goal

@@ -1,5 +1,5 @@
 use Rattle.slicc_reading.proofs.Parts.{other_token_refused, no_token_refused}
-use Rattle.slicc_expr.specs.StatementParts.{print_kinds}
+use Rattle.slicc_expr.specs.Prelude.{print_kinds}
 use Rattle.slicc_expr.proofs.StatementForms.{print_word_read}
 use Rattle.slicc_expr.proofs.called_statements.print_word.Goals as goal
 

@@ -1,8 +1,8 @@
 use Rattle.std.proofs.Common.{◌-◌, ◌<◌, length, arith}
 use Rattle.slicc_ast.specs.declared.tree.token.Sign.TheVariants.{Comma}
 use Rattle.slicc_ast.specs.declared.tree.token.Word.TheVariants.{StallAndWait}
-use Rattle.slicc_ast.specs.Parts.{semicolon}
-use Rattle.slicc_expr.specs.StatementParts.{named_value, named_value_parts}
+use Rattle.slicc_ast.specs.Prelude.{semicolon}
+use Rattle.slicc_expr.specs.Prelude.{named_value, named_value_parts}
 use Rattle.slicc_reading.proofs.GoingOn.{at_most}
 use Rattle.slicc_reading.proofs.Parts.{as_node, at_first}
 use Rattle.slicc_expr.proofs.called_statements.stall_and_wait.Goals as goal

@@ -1,20 +1,18 @@
 use Rattle.std.proofs.Common.{◌-◌, refl, sym, arith, ◌∷◌, []}
-use Rattle.slicc_ast.specs.Grammar.Row.{done, form}
+use Rattle.slicc_ast.specs.Prelude.{done, form, sign_kind, arguments, constant, expression, name_end, opening, unary, ◌▸◌, of, optional, parentheses, repeated, level_of}
 use Rattle.slicc_ast.specs.Names.{sign}
 use Rattle.slicc_ast.specs.declared.tree.token.Sign.TheVariants.{CloseParenthesis, Dot, OpenBracket}
-use Rattle.slicc_ast.specs.TokenKinds.{sign_kind}
-use Rattle.slicc_ast.specs.Form.Form.{arguments, constant, expression, name_end, opening, suffix, unary}
-use Rattle.slicc_ast.specs.Parts.{◌▸◌, of, optional, parentheses, repeated, sign as sign_part}
-use Rattle.slicc_reading.specs.Reading.Refuses.{no_memory}
+use Rattle.slicc_ast.specs.Form.Form.{suffix}
+use Rattle.slicc_ast.specs.Parts.{sign as sign_part}
+use Rattle.slicc_reading.specs.Prelude.{no_memory}
 use Rattle.slicc_reading.proofs.Parts.{◌then◌, allow, as_node, as_node_behind, as_part, as_tree, at_first, behind, behind_read, in_alternative, match_map, of_alternative, read_behind}
 use Rattle.slicc_reading.proofs.Choices.{absent, absent_read, present, present_read, fault_in_present, fault_in_more, in_nesting, fault_in_nesting}
-use Rattle.slicc_expr.specs.Levels.{cast_head}
+use Rattle.slicc_expr.specs.Prelude.{cast_head}
 use Rattle.slicc_expr.proofs.Loops.{args_parts, expr_parts, head_parts, more_items, items_begin, items_more, items_end, no_items, operands_begin, one_level, fault_in_level, all_operands, are_some, fault_in_operand, no_operand, no_operand_yet, no_suffix, one_operand, operands_end, operands_level, operation_read, operator_ahead, postfix_read, some_begin, some_end, some_more, suffix_parts, suffixes_end}
 use Rattle.slicc_reading.proofs.GoingOn.{calls, fewer, fewer_still, nests, of_read, of_value, on_fault, weaker}
 use Rattle.slicc_reading.proofs.Repeats.{fault_in_one}
 use Rattle.slicc_expr.proofs.Ahead.{bracket_ahead, colon_ahead, constant_ahead, invalid_ahead, level_read, fault_in_operators, fault_in_unary, neither_ahead, no_level, open_ahead, opening_ahead, unary_level}
-use Rattle.slicc_ast.specs.Expressions.{level_of}
-use Rattle.slicc_lex.specs.Syntax.{symbols}
+use Rattle.slicc_lex.specs.Prelude.{symbols}
 use Rattle.slicc_expr.proofs.expressions.+expression.Goals as goal
 
 pub after_name-returns-in-Ok-clause-read : goal.after_name-returns-in-Ok-clause-read

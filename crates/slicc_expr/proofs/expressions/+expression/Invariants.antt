@@ -1,7 +1,7 @@
 -- How deep the cycle of functions goes: each call has fewer tokens left, or comes later in this order.
 use Rattle.std.proofs.Common.{◌+◌, ◌-◌, ◌*◌, length}
 use Rattle.slicc_ast.specs.Form.Form.{suffix}
-use Rattle.slicc_ast.specs.Parts.{of}
+use Rattle.slicc_ast.specs.Prelude.{of}
 use Rattle.slicc_expr.proofs.Loops.{AreItems, AreOperands, AreSome, IsOperand, suffix_parts}
 use Rattle.slicc_expr.proofs.expressions.+expression.Given as goal
 

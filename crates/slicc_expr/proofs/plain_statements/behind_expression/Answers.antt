@@ -1,10 +1,9 @@
 use Rattle.std.proofs.Common.{sym}
-use Rattle.slicc_ast.specs.Grammar.Row.{done}
-use Rattle.slicc_ast.specs.Parts.{semicolon}
+use Rattle.slicc_ast.specs.Prelude.{done, semicolon}
 use Rattle.slicc_reading.proofs.Parts.{◌then◌, as_node_behind, at_first, behind}
 use Rattle.slicc_reading.proofs.Choices.{absent, fault_in_present, present}
 use Rattle.slicc_ast.specs.declared.tree.token.Sign.TheVariants.{Assign}
-use Rattle.slicc_expr.specs.StatementParts.{value_after}
+use Rattle.slicc_expr.specs.Prelude.{value_after}
 use Rattle.slicc_expr.proofs.plain_statements.behind_expression.Goals as goal
 
 pub returns-in-Ok : goal.returns-in-Ok

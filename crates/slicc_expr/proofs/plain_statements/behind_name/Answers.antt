@@ -1,10 +1,9 @@
 use Rattle.std.proofs.Common.{refl, sym}
-use Rattle.slicc_ast.specs.Form.{Form}
-use Rattle.slicc_ast.specs.Parts.{names_of}
-use Rattle.slicc_lex.specs.Syntax.{symbols}
+use Rattle.slicc_ast.specs.Prelude.{Form, names_of}
+use Rattle.slicc_lex.specs.Prelude.{symbols}
 use Rattle.slicc_reading.proofs.Parts.{at_first, at_no_alternative, behind_read, in_alternative, match_map, of_alternative, read_behind}
 use Rattle.slicc_reading.proofs.FirstTokens.{neither_kind}
-use Rattle.slicc_expr.specs.StatementParts.{expression_end, signs_behind_name}
+use Rattle.slicc_expr.specs.Prelude.{expression_end, signs_behind_name}
 use Rattle.slicc_expr.proofs.plain_statements.behind_name.Goals as goal
 
 pub returns-then-is_name : goal.returns-then-is_name

@@ -1,6 +1,6 @@
 use Rattle.slicc_ast.specs.declared.tree.token.Sign.TheVariants.{Assign}
 use Rattle.slicc_reading.proofs.Parts.{as_node_behind}
-use Rattle.slicc_expr.specs.StatementParts.{named_value, named_value_parts}
+use Rattle.slicc_expr.specs.Prelude.{named_value, named_value_parts}
 use Rattle.slicc_expr.proofs.plain_statements.declaration.Goals as goal
 
 pub returns-in-Ok : goal.returns-in-Ok

@@ -1,5 +1,4 @@
-use Rattle.slicc_ast.specs.Form.{Form}
-use Rattle.slicc_ast.specs.Parts.{of}
+use Rattle.slicc_ast.specs.Prelude.{Form, of}
 use Rattle.slicc_reading.proofs.Parts.{at_first, behind_read, match_map, read_behind}
 use Rattle.slicc_expr.proofs.plain_statements.name_statement.Goals as goal
 

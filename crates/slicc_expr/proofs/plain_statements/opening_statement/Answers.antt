@@ -1,5 +1,5 @@
 use Rattle.slicc_reading.proofs.Parts.{at_first, behind_read, match_map, read_behind}
-use Rattle.slicc_expr.specs.StatementParts.{expression_end}
+use Rattle.slicc_expr.specs.Prelude.{expression_end}
 use Rattle.slicc_expr.proofs.plain_statements.opening_statement.Goals as goal
 
 pub returns-in-Ok-clause-read : goal.returns-in-Ok-clause-read

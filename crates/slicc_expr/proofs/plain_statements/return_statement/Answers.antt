@@ -1,7 +1,5 @@
 use Rattle.std.proofs.Common.{◌<◌, length, arith}
-use Rattle.slicc_ast.specs.Statements.{optional_expr}
-use Rattle.slicc_ast.specs.Form.{Form}
-use Rattle.slicc_ast.specs.Parts.{of, optional}
+use Rattle.slicc_ast.specs.Prelude.{optional_expr, Form, of, optional}
 use Rattle.slicc_reading.proofs.GoingOn.{at_most}
 use Rattle.slicc_reading.proofs.Parts.{◌then◌, as_node, at_first, behind}
 use Rattle.slicc_expr.proofs.plain_statements.return_statement.Goals as goal

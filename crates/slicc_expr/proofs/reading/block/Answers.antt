@@ -1,9 +1,7 @@
 use Rattle.std.proofs.Common.{refl, sym, ◌∙◌, drop, length, ◌-◌, subst, ap}
-use Rattle.slicc_ast.specs.Statements.{block_outline}
+use Rattle.slicc_ast.specs.Prelude.{block_outline, of}
 use Rattle.slicc_ast.specs.Form.Form.{block}
-use Rattle.slicc_ast.specs.Parts.{of}
-use Rattle.slicc_reading.specs.Answers.{IsFaultFrom, placed}
-use Rattle.slicc_reading.specs.Reading.{IsRead, Refuses}
+use Rattle.slicc_reading.specs.Prelude.{IsFaultFrom, placed, IsRead, Refuses}
 use Rattle.slicc_reading.proofs.Border.{read_from, fault_from}
 use Rattle.slicc_expr.proofs.reading.block.Goals as goal
 

@@ -1,9 +1,6 @@
 use Rattle.std.proofs.Common.{refl, sym, ◌∙◌, drop, length, ◌-◌, subst, ap}
-use Rattle.slicc_ast.specs.Expressions.{expr}
-use Rattle.slicc_ast.specs.Form.Form.{expression}
-use Rattle.slicc_ast.specs.Parts.{of}
-use Rattle.slicc_reading.specs.Answers.{IsFaultFrom, placed}
-use Rattle.slicc_reading.specs.Reading.{IsRead, Refuses}
+use Rattle.slicc_ast.specs.Prelude.{expr, expression, of}
+use Rattle.slicc_reading.specs.Prelude.{IsFaultFrom, placed, IsRead, Refuses}
 use Rattle.slicc_reading.proofs.Border.{read_from, fault_from}
 use Rattle.slicc_expr.proofs.reading.expr.Goals as goal
 

@@ -1,8 +1,8 @@
 use Rattle.std.proofs.Common.{sym}
-use Rattle.slicc_ast.specs.Grammar.Row.{done}
+use Rattle.slicc_ast.specs.Prelude.{done}
 use Rattle.slicc_reading.proofs.Choices.{absent, fault_in_present, present}
 use Rattle.slicc_ast.specs.declared.tree.token.Sign.TheVariants.{Comma}
-use Rattle.slicc_expr.specs.StatementParts.{value_after}
+use Rattle.slicc_expr.specs.Prelude.{value_after}
 use Rattle.slicc_expr.proofs.statement_values.latency.Goals as goal
 
 pub returns-then-not-is_sign : goal.returns-then-not-is_sign

@@ -1,6 +1,6 @@
 use Rattle.slicc_ast.specs.Names.{name}
 use Rattle.slicc_reading.proofs.Parts.{as_part, at_first}
-use Rattle.slicc_expr.specs.StatementParts.{value_after, value_after_parts}
+use Rattle.slicc_expr.specs.Prelude.{value_after, value_after_parts}
 use Rattle.slicc_expr.proofs.statement_values.named_value.Goals as goal
 
 pub returns-in-Ok : goal.returns-in-Ok

@@ -1,6 +1,5 @@
 use Rattle.std.proofs.Common.{sym}
-use Rattle.slicc_ast.specs.Grammar.Row.{done, form}
-use Rattle.slicc_ast.specs.Form.{Form}
+use Rattle.slicc_ast.specs.Prelude.{done, form, Form}
 use Rattle.slicc_reading.proofs.Parts.{as_part}
 use Rattle.slicc_reading.proofs.Choices.{absent, fault_in_present, present}
 use Rattle.slicc_expr.proofs.statement_values.optional_value.Goals as goal

@@ -1,5 +1,4 @@
-use Rattle.slicc_ast.specs.Form.{Form}
-use Rattle.slicc_ast.specs.Parts.{of}
+use Rattle.slicc_ast.specs.Prelude.{Form, of}
 use Rattle.slicc_reading.proofs.Parts.{◌then◌, as_part, at_first, behind, match_map}
 use Rattle.slicc_expr.proofs.statement_values.value_after.Goals as goal
 

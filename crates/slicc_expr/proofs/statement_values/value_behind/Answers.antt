@@ -1,4 +1,4 @@
-use Rattle.slicc_ast.specs.Parts.{operators}
+use Rattle.slicc_ast.specs.Prelude.{operators}
 use Rattle.slicc_reading.proofs.Parts.{at_first, behind_read, match_map, read_behind}
 use Rattle.slicc_expr.proofs.statement_values.value_behind.Goals as goal
 

@@ -1,7 +1,7 @@
 use Rattle.std.proofs.Common.{List, [], subst, refl, arith, rules, IsSomeAnd, codes}
 use Rattle.std.specs.List.{slice_get}
 use Rattle.slicc_files.specs.declared.gathered.Source.{Source}
-use Rattle.slicc_files.specs.Steps.{IsRefusalOf, in_order}
+use Rattle.slicc_files.specs.Prelude.{IsRefusalOf, in_order}
 use Rattle.slicc_files.proofs.Stepping.{passes_by, too_many}
 use Rattle.slicc_files.proofs.gathering.enter.Goals as goal
 

@@ -1,5 +1,5 @@
 use Rattle.std.proofs.Common.{IsUtf8}
-use Rattle.slicc_files.specs.Steps.{AreSound, steps_left}
+use Rattle.slicc_files.specs.Prelude.{AreSound, steps_left}
 use Rattle.slicc_files.proofs.Stepping.{ReachedBy}
 use Rattle.slicc_files.proofs.gathering.follow.Given as goal
 

@@ -1,8 +1,6 @@
 use Rattle.std.proofs.Common.{◌≤◌, [], refl, subst, sym, All, length}
 use Rattle.std.proofs.lemmas.List.Elements.{All-nil}
-use Rattle.slicc_files.specs.Gathering.{IsAllowed}
-use Rattle.slicc_files.specs.Gathering.IsGathered.{no_memory}
-use Rattle.slicc_files.specs.Reads.{file_limit}
+use Rattle.slicc_files.specs.Prelude.{IsAllowed, no_memory, file_limit}
 use Rattle.slicc_files.specs.declared.gathered.Source.{Source}
 use Rattle.slicc_files.proofs.Ways.{all_allowed, all_short}
 use Rattle.slicc_files.proofs.gathering.gather.Goals as goal

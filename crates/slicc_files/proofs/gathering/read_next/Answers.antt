@@ -1,8 +1,7 @@
 use Rattle.std.proofs.Common.{arith, rules}
 use Rattle.ruby_outside.specs.declared.library.Got.TheVariants as got
 use Rattle.slicc_files.specs.declared.gathered.Gathered.TheVariants.{Absent, TooLarge, ReadFault, NoMemory}
-use Rattle.slicc_files.specs.Gathering.{source_of}
-use Rattle.slicc_files.specs.Gathering.IsGathered.{absent, too_large, too_long, failed, no_memory_for}
+use Rattle.slicc_files.specs.Prelude.{source_of, absent, too_large, too_long, failed, no_memory_for}
 use Rattle.slicc_files.proofs.Stepping.{read_some, read_none, sound_after, fewer_after}
 use Rattle.slicc_files.proofs.gathering.read_next.Goals as goal
 

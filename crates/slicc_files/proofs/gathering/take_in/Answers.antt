@@ -1,5 +1,5 @@
 use Rattle.std.proofs.Common.{ℕ, List, Ok, length, subst}
-use Rattle.slicc_files.specs.Texts.{IsReadText}
+use Rattle.slicc_files.specs.Prelude.{IsReadText}
 use Rattle.slicc_files.proofs.gathering.take_in.Goals as goal
 
 pub returns-in-Ok-add : goal.returns-in-Ok-add

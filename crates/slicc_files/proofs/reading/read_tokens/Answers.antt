@@ -1,6 +1,6 @@
 use Rattle.std.proofs.Common.{refl}
 use Rattle.std.specs.List.{slice_get}
-use Rattle.slicc_files.specs.Texts.IsReadTokens.{spells_a_tree}
+use Rattle.slicc_files.specs.Prelude.{spells_a_tree}
 use Rattle.slicc_files.proofs.ReadTexts.{bad_fault, deep_fault}
 use Rattle.slicc_files.proofs.reading.read_tokens.Goals as goal
 

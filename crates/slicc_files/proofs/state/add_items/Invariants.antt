@@ -1,6 +1,6 @@
 use Rattle.std.proofs.Common.{◌≡◌, ◌≤◌, ◌++◌, drop, length, reverse}
 use Rattle.std.specs.List.{flat_map}
-use Rattle.slicc_files.specs.Gathering.{wanted_by}
+use Rattle.slicc_files.specs.Prelude.{wanted_by}
 use Rattle.slicc_files.proofs.state.add_items.Given as goal
 
 abbrev pub invariant-loop-count : goal.invariant-loop-count

@@ -1,6 +1,6 @@
 use Rattle.std.proofs.Common.{◌≡◌, ◌<◌, ◌∷◌, ◌∙◌, [], length, subst, ap, get_or}
 use Rattle.slicc_ast.specs.declared.tree.span.Span.{Span}
-use Rattle.slicc_plan.specs.Order.{first_after}
+use Rattle.slicc_plan.specs.Prelude.{first_after}
 use Rattle.slicc_flow.proofs.FirstOf.{changes_in, changes_step}
 use Rattle.slicc_flow.proofs.changes.changes_of.Goals as goal
 

@@ -1,5 +1,5 @@
 use Rattle.std.proofs.Common.{◌≡◌, take}
-use Rattle.slicc_plan.specs.Order.{first_after}
+use Rattle.slicc_plan.specs.Prelude.{first_after}
 use Rattle.slicc_flow.proofs.FirstOf.{changes_in}
 use Rattle.slicc_flow.proofs.changes.changes_of.Given as goal
 

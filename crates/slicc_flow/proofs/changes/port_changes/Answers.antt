@@ -1,6 +1,5 @@
 use Rattle.std.proofs.Common.{◌∙◌, ap}
-use Rattle.slicc_plan.specs.ReadOnly.{changes_at}
-use Rattle.slicc_plan.specs.Order.{first_after}
+use Rattle.slicc_plan.specs.Prelude.{changes_at, first_after}
 use Rattle.slicc_flow.proofs.FirstOf.{flat_step}
 use Rattle.slicc_flow.proofs.changes.port_changes.Goals as goal
 

@@ -1,6 +1,5 @@
 use Rattle.std.proofs.Common.{◌≡◌, flat_map, take}
-use Rattle.slicc_plan.specs.Order.{first_after}
-use Rattle.slicc_plan.specs.ReadOnly.{changes_at}
+use Rattle.slicc_plan.specs.Prelude.{first_after, changes_at}
 use Rattle.slicc_flow.proofs.changes.port_changes.Given as goal
 
 abbrev pub invariant-loop-b : goal.invariant-loop-b

@@ -1,6 +1,5 @@
 use Rattle.std.proofs.Common.{◌∙◌, ap, flat_map}
-use Rattle.slicc_plan.specs.Order.{first_after}
-use Rattle.slicc_plan.specs.ReadOnly.{changes_at, reached_changes, reading_calls}
+use Rattle.slicc_plan.specs.Prelude.{first_after, changes_at, reached_changes, reading_calls}
 use Rattle.slicc_flow.proofs.FirstOf.{first_of_two}
 use Rattle.slicc_flow.proofs.changes.reading_changes.Goals as goal
 

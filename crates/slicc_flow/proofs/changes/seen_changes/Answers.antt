@@ -1,7 +1,5 @@
 use Rattle.std.proofs.Common.{◌∙◌, [], ap, cond}
-use Rattle.slicc_plan.specs.CallsBetween.{is_reached}
-use Rattle.slicc_plan.specs.Order.{first_after}
-use Rattle.slicc_plan.specs.ReadOnly.{changes_at, reached_changes}
+use Rattle.slicc_plan.specs.Prelude.{is_reached, first_after, changes_at, reached_changes}
 use Rattle.slicc_flow.proofs.FirstOf.{reached_step}
 use Rattle.slicc_flow.proofs.changes.seen_changes.Goals as goal
 

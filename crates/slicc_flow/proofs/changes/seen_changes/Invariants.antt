@@ -1,6 +1,5 @@
 use Rattle.std.proofs.Common.{◌≡◌, drop}
-use Rattle.slicc_plan.specs.ReadOnly.{reached_changes}
-use Rattle.slicc_plan.specs.Order.{first_after}
+use Rattle.slicc_plan.specs.Prelude.{reached_changes, first_after}
 use Rattle.slicc_flow.proofs.changes.seen_changes.Given as goal
 
 abbrev pub invariant-loop-number : goal.invariant-loop-number

@@ -4,8 +4,8 @@ use Rattle.std.specs.Option.{option_copied}
 use Rattle.std.proofs.lemmas.Result.{on_ok_weaker}
 use Rattle.slicc_ast.specs.declared.tree.expression.Expr.TheViews.{the_lemmas}
 use Rattle.slicc_plan.specs.declared.part.Part.TheVariants.{Plain}
-use Rattle.slicc_plan.specs.BodyParts.{call_part, changes_more, changing, expr_parts, name_in, number_in, suffix_parts}
-use Rattle.slicc_flow.specs.Lists.{operand_parts, suffix_list_parts}
+use Rattle.slicc_plan.specs.Prelude.{call_part, changes_more, changing, expr_parts, name_in, number_in, suffix_parts}
+use Rattle.slicc_flow.specs.Prelude.{operand_parts, suffix_list_parts}
 use Rattle.slicc_flow.proofs.PartLists.{added_both, added_suffix, argument_rows}
 use Rattle.slicc_flow.proofs.PartsOfBoxes.{expr_parts_of_Cast, expr_parts_of_Group, expr_parts_of_Operation, expr_parts_of_Postfix, expr_parts_of_plain_boxes}
 use Rattle.slicc_flow.proofs.expression.+expression_parts.Goals as goal

@@ -1,8 +1,8 @@
 use Rattle.std.proofs.Common.{◌≡◌, ◌++◌, None, take}
 use Rattle.std.specs.List.{flat_map}
 use Rattle.std.specs.Option.{option_copied}
-use Rattle.slicc_plan.specs.BodyParts.{expr_parts}
-use Rattle.slicc_flow.specs.Lists.{operand_parts, suffix_list_parts}
+use Rattle.slicc_plan.specs.Prelude.{expr_parts}
+use Rattle.slicc_flow.specs.Prelude.{operand_parts, suffix_list_parts}
 use Rattle.slicc_flow.proofs.expression.+expression_parts.Given as goal
 
 abbrev pub invariant-add_args-loop-item : goal.invariant-add_args-loop-item

@@ -1,5 +1,5 @@
 use Rattle.std.proofs.Common.{◌≡◌, ◌∙◌, sym, ap}
-use Rattle.slicc_plan.specs.BodyParts.{name_in}
+use Rattle.slicc_plan.specs.Prelude.{name_in}
 use Rattle.slicc_flow.proofs.PartsOfBoxes.{name_in_Group}
 use Rattle.slicc_flow.proofs.expression.+name_in.Goals as goal
 

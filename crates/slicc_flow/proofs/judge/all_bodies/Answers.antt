@@ -1,5 +1,5 @@
 use Rattle.std.proofs.Common.{◌<◌, ◌≤◌, ◌∙◌, length, subst}
-use Rattle.slicc_plan.specs.Declarations.{wide_scopes}
+use Rattle.slicc_plan.specs.Prelude.{wide_scopes}
 use Rattle.slicc_flow.proofs.Judged.{scope_step, scopes_all}
 use Rattle.slicc_flow.proofs.judge.all_bodies.Goals as goal
 

@@ -1,7 +1,6 @@
 use Rattle.std.proofs.Common.{◌∙◌, ap}
-use Rattle.slicc_plan.specs.ReadOnly.{changes_among}
-use Rattle.slicc_plan.specs.Order.{first_after}
-use Rattle.slicc_flow.specs.Machines.{changes_of, each_from}
+use Rattle.slicc_plan.specs.Prelude.{changes_among, first_after}
+use Rattle.slicc_flow.specs.Prelude.{changes_of, each_from}
 use Rattle.slicc_flow.proofs.Judged.{each_step}
 use Rattle.slicc_flow.proofs.judge.all_changes.Goals as goal
 

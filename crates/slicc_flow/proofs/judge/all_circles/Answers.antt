@@ -1,7 +1,6 @@
 use Rattle.std.proofs.Common.{◌∙◌, ap}
-use Rattle.slicc_plan.specs.CallsBetween.{circles_among}
-use Rattle.slicc_plan.specs.Order.{first_after}
-use Rattle.slicc_flow.specs.Machines.{circles_of, each_from}
+use Rattle.slicc_plan.specs.Prelude.{circles_among, first_after}
+use Rattle.slicc_flow.specs.Prelude.{circles_of, each_from}
 use Rattle.slicc_flow.proofs.Judged.{each_step}
 use Rattle.slicc_flow.proofs.judge.all_circles.Goals as goal
 

@@ -1,6 +1,6 @@
 use Rattle.std.proofs.Common.{◌≡◌, drop}
-use Rattle.slicc_plan.specs.Order.{first_after}
-use Rattle.slicc_flow.specs.Machines.{circles_of, each_from}
+use Rattle.slicc_plan.specs.Prelude.{first_after}
+use Rattle.slicc_flow.specs.Prelude.{circles_of, each_from}
 use Rattle.slicc_flow.proofs.judge.all_circles.Given as goal
 
 abbrev pub invariant-loop-number : goal.invariant-loop-number

@@ -1,7 +1,6 @@
 use Rattle.std.proofs.Common.{◌∙◌, ◌++◌, ap}
-use Rattle.slicc_plan.specs.BodySizes.{large_among}
-use Rattle.slicc_plan.specs.Order.{first_after}
-use Rattle.slicc_flow.specs.Machines.{each_from, large_of}
+use Rattle.slicc_plan.specs.Prelude.{large_among, first_after}
+use Rattle.slicc_flow.specs.Prelude.{each_from, large_of}
 use Rattle.slicc_flow.proofs.Judged.{each_step}
 use Rattle.slicc_flow.proofs.judge.all_large.Goals as goal
 

@@ -1,7 +1,7 @@
 use Rattle.std.proofs.Common.{◌≡◌, ◌∙◌}
 use Rattle.std.proofs.lemmas.Result.{IfOk-weaker}
-use Rattle.slicc_plan.specs.Order.{first_after}
-use Rattle.slicc_flow.specs.Flows.{broken_flow}
+use Rattle.slicc_plan.specs.Prelude.{first_after}
+use Rattle.slicc_flow.specs.Prelude.{broken_flow}
 use Rattle.slicc_flow.specs.Machines.{found_in}
 use Rattle.slicc_flow.proofs.Judged.{broken_all}
 use Rattle.slicc_flow.proofs.judge.flow_broken.Goals as goal

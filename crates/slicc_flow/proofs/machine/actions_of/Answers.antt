@@ -1,8 +1,6 @@
 use Rattle.std.proofs.Common.{ap, map, ◌∙◌}
-use Rattle.slicc_plan.specs.BodyParts.{bodies_of}
-use Rattle.slicc_plan.specs.Machines.{transitions_of}
-use Rattle.slicc_flow.specs.Written.{written_list}
-use Rattle.slicc_flow.specs.Checks.{checks_with, transition_checks}
+use Rattle.slicc_plan.specs.Prelude.{bodies_of, transitions_of}
+use Rattle.slicc_flow.specs.Prelude.{written_list, checks_with, transition_checks}
 use Rattle.slicc_flow.proofs.machine.actions_of.Goals as goal
 
 pub returns-clause-actions : goal.returns-clause-actions

@@ -1,6 +1,6 @@
 use Rattle.std.proofs.Common.{◌≡◌}
 use Rattle.std.proofs.lemmas.Result.{IfOk-weaker}
-use Rattle.slicc_flow.specs.Machines.{bodies_in, bodies_with}
+use Rattle.slicc_flow.specs.Prelude.{bodies_in, bodies_with}
 use Rattle.slicc_flow.proofs.Judged.{placed}
 use Rattle.slicc_flow.proofs.machine.machine_bodies.Goals as goal
 

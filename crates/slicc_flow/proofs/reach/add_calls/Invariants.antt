@@ -1,5 +1,5 @@
 use Rattle.std.proofs.Common.{◌≡◌, take}
-use Rattle.slicc_flow.specs.Marks.{with_calls}
+use Rattle.slicc_flow.specs.Prelude.{with_calls}
 use Rattle.slicc_flow.proofs.reach.add_calls.Given as goal
 
 abbrev pub invariant-loop-call : goal.invariant-loop-call

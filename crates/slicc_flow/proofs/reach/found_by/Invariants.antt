@@ -1,5 +1,5 @@
 use Rattle.std.proofs.Common.{◌≡◌}
-use Rattle.slicc_flow.specs.Marks.{expanded, none_found, with_calls}
+use Rattle.slicc_flow.specs.Prelude.{expanded, none_found, with_calls}
 use Rattle.slicc_flow.proofs.reach.found_by.Given as goal
 
 abbrev pub invariant-loop-place : goal.invariant-loop-place

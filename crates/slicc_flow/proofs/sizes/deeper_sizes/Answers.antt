@@ -1,7 +1,7 @@
 use Rattle.std.proofs.Common.{◌++◌, ◌∷◌, ◌∙◌, [], ap, get_or}
 use Rattle.slicc_plan.specs.declared.part.Body.{Body}
-use Rattle.slicc_plan.specs.BodySizes.{size_with}
-use Rattle.slicc_flow.specs.Sizes.{capped}
+use Rattle.slicc_plan.specs.Prelude.{size_with}
+use Rattle.slicc_flow.specs.Prelude.{capped}
 use Rattle.slicc_flow.proofs.Caps.{next_step}
 use Rattle.slicc_flow.proofs.sizes.deeper_sizes.Goals as goal
 

@@ -1,5 +1,5 @@
 use Rattle.std.proofs.Common.{◌≡◌, take}
-use Rattle.slicc_flow.specs.Sizes.{next_sizes}
+use Rattle.slicc_flow.specs.Prelude.{next_sizes}
 use Rattle.slicc_flow.proofs.sizes.deeper_sizes.Given as goal
 
 abbrev pub invariant-loop-b : goal.invariant-loop-b

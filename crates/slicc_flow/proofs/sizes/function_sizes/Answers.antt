@@ -1,5 +1,5 @@
 use Rattle.std.proofs.Common.{add-one, ◌∙◌, ap}
-use Rattle.slicc_flow.specs.Sizes.{next_sizes}
+use Rattle.slicc_flow.specs.Prelude.{next_sizes}
 use Rattle.slicc_flow.proofs.Caps.{deeper}
 use Rattle.slicc_flow.proofs.sizes.function_sizes.Goals as goal
 

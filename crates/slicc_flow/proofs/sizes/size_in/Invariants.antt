@@ -1,6 +1,6 @@
 use Rattle.std.proofs.Common.{◌≡◌, ◌+◌, take}
 use Rattle.std.specs.List.{slice_index_or, sum_by}
-use Rattle.slicc_flow.specs.Sizes.{capped}
+use Rattle.slicc_flow.specs.Prelude.{capped}
 use Rattle.slicc_flow.proofs.sizes.size_in.Given as goal
 
 abbrev pub invariant-loop-call : goal.invariant-loop-call

@@ -1,7 +1,7 @@
 use Rattle.std.proofs.Common.{◌≡◌, ◌++◌, take}
 use Rattle.std.specs.List.{flat_map}
-use Rattle.slicc_plan.specs.BodyParts.{stmt_parts}
-use Rattle.slicc_flow.specs.Lists.{else_if_parts}
+use Rattle.slicc_plan.specs.Prelude.{stmt_parts}
+use Rattle.slicc_flow.specs.Prelude.{else_if_parts}
 use Rattle.slicc_flow.proofs.statement.+statement_parts.Given as goal
 
 abbrev pub invariant-add_block-loop-statement : goal.invariant-add_block-loop-statement

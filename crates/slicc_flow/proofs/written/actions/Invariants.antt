@@ -1,7 +1,7 @@
 use Rattle.std.proofs.Common.{◌≡◌, [], take, flat_map}
 use Rattle.std.specs.List.{fold}
-use Rattle.slicc_plan.specs.BodyParts.{action_in, names_of_written, with_written}
-use Rattle.slicc_flow.specs.Written.{written_list}
+use Rattle.slicc_plan.specs.Prelude.{action_in, names_of_written, with_written}
+use Rattle.slicc_flow.specs.Prelude.{written_list}
 use Rattle.slicc_flow.proofs.written.actions.Given as goal
 
 abbrev pub invariant-loop-d : goal.invariant-loop-d

@@ -2,8 +2,8 @@ use Rattle.std.proofs.Common.{◌≡◌, ◌++◌, ◌∷◌, ◌∙◌, [], tru
 use Rattle.std.proofs.lemmas.List.{map-append}
 use Rattle.std.proofs.lemmas.Result.{on_ok_weaker}
 use Rattle.std.specs.List.{fold}
-use Rattle.slicc_plan.specs.BodyParts.{names_of_written, number_in, with_written}
-use Rattle.slicc_flow.specs.Written.{written_list, written_of, written_or_none}
+use Rattle.slicc_plan.specs.Prelude.{names_of_written, number_in, with_written}
+use Rattle.slicc_flow.specs.Prelude.{written_list, written_of, written_or_none}
 use Rattle.slicc_flow.proofs.FirstNames.{added_new, added_old}
 use Rattle.slicc_flow.proofs.written.add_first.Goals as goal
 

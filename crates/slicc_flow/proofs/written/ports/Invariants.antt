@@ -1,6 +1,6 @@
 use Rattle.std.proofs.Common.{◌≡◌, take, flat_map}
 use Rattle.slicc_plan.specs.BodyParts.{port_in}
-use Rattle.slicc_flow.specs.Written.{written_list}
+use Rattle.slicc_flow.specs.Prelude.{written_list}
 use Rattle.slicc_flow.proofs.written.ports.Given as goal
 
 abbrev pub invariant-loop-d : goal.invariant-loop-d

@@ -1,7 +1,6 @@
 use Rattle.std.proofs.Common.{◌≡◌, ◌∙◌, None, Some, ap, slice_get, sym}
 use Rattle.std.specs.Option.{option_copied}
-use Rattle.slicc_plan.specs.Declarations.{machines_of}
-use Rattle.slicc_plan.specs.SymbolsOf.{symbols_of}
+use Rattle.slicc_plan.specs.Prelude.{machines_of, symbols_of}
 use Rattle.slicc_interpreter.proofs.Scans.{without_machine, without_tree}
 use Rattle.slicc_interpreter.proofs.interpreted.round_of.Goals as goal
 

@@ -1,7 +1,6 @@
 use Rattle.std.proofs.Common.{◌≡◌, ◌∙◌, Result, Ok, subst}
 use Rattle.ruby_base.specs.declared.memory.NoMemory.{NoMemory}
-use Rattle.body_meaning.specs.Round.{IsRoundOf}
-use Rattle.body_meaning.specs.Scan.{Scanned}
+use Rattle.body_meaning.specs.Prelude.{IsRoundOf, Scanned}
 use Rattle.slicc_interpreter.proofs.Scans.{few_of, with_machine}
 use Rattle.slicc_interpreter.proofs.interpreted.round_with.Goals as goal
 

@@ -1,6 +1,6 @@
 use Rattle.std.proofs.Common.{rules, ◌≡◌, slice_get}
 use Rattle.std.specs.Option.{option_copied}
-use Rattle.slicc_plan.specs.SymbolsOf.{symbols_of}
+use Rattle.slicc_plan.specs.Prelude.{symbols_of}
 use Rattle.slicc_interpreter.proofs.Scans.{numbers_at}
 use Rattle.slicc_interpreter.proofs.small.machine_of.Goals as goal
 

@@ -1,6 +1,6 @@
 use Rattle.std.proofs.Common.{◌≡◌, ◌+◌, length}
 use Rattle.std.specs.Option.{option_map}
-use Rattle.slicc_lex.specs.Lexing.{close_len}
+use Rattle.slicc_lex.specs.Prelude.{close_len}
 use Rattle.slicc_lex.proofs.comment.close_len.Given as goal
 
 -- what is left closes so many bytes later than the bytes do

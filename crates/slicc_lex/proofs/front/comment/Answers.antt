@@ -2,9 +2,7 @@ use Rattle.std.proofs.Common.{◌+◌, sym, ap, subst, arith, inr, length}
 use Rattle.std.proofs.lemmas.List.Sums.{prefix_len-le-length}
 use Rattle.slicc_lex.specs.declared.fault.LexFault.TheVariants.{OpenComment}
 use Rattle.slicc_lex.specs.declared.piece.Piece.TheVariants.{Gap}
-use Rattle.slicc_lex.specs.Pieces.{is_in_line}
-use Rattle.slicc_lex.specs.Tokens.{IsFault}
-use Rattle.slicc_lex.specs.Lexing.{Stands}
+use Rattle.slicc_lex.specs.Prelude.{is_in_line, IsFault, Stands}
 use Rattle.slicc_lex.proofs.FoundGaps.{after_slash, found_line, found_block, comment_open, block_inside}
 use Rattle.slicc_lex.proofs.front.comment.Goals as goal
 

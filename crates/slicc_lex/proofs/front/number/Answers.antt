@@ -2,8 +2,7 @@ use Rattle.std.proofs.Common.{◌+◌, subst, arith, inr}
 use Rattle.std.proofs.lemmas.List.Sums.{prefix_len-le-length}
 use Rattle.slicc_ast.specs.declared.tree.token.TokenKind.TheVariants.{Number}
 use Rattle.slicc_lex.specs.declared.piece.Piece.TheVariants.{Lexeme}
-use Rattle.slicc_lex.specs.Numbers.{is_digit}
-use Rattle.slicc_lex.specs.Lexing.{Stands}
+use Rattle.slicc_lex.specs.Prelude.{is_digit, Stands}
 use Rattle.slicc_lex.proofs.FoundNumbers.{found_hexadecimal, hexadecimal_too_large, found_decimal, decimal_too_large, hexadecimal_fits, same_number}
 use Rattle.slicc_lex.proofs.front.number.Goals as goal
 

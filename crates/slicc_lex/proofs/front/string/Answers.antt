@@ -1,6 +1,6 @@
 use Rattle.std.proofs.Common.{arith, inr}
 use Rattle.std.proofs.lemmas.List.Sums.{prefix_len-le-length}
-use Rattle.slicc_lex.specs.Pieces.{is_inside}
+use Rattle.slicc_lex.specs.Prelude.{is_inside}
 use Rattle.slicc_lex.proofs.FoundStrings.{string_open, found_string, bad_inside, no_quote, other_quote, all_printable, closed_by}
 use Rattle.slicc_lex.proofs.front.string.Goals as goal
 

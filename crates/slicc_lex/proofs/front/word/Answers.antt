@@ -1,6 +1,6 @@
 use Rattle.std.proofs.Common.{arith, inr}
 use Rattle.std.proofs.lemmas.List.Sums.{prefix_len-le-length}
-use Rattle.slicc_ast.specs.Bytes.{is_word_byte}
+use Rattle.slicc_ast.specs.Prelude.{is_word_byte}
 use Rattle.slicc_lex.proofs.FoundWords.{found_reserved, found_name, name_too_long}
 use Rattle.slicc_lex.proofs.front.word.Goals as goal
 

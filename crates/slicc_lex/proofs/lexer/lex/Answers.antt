@@ -1,6 +1,6 @@
 use Rattle.std.proofs.Common.{Ok, List, sym, subst, inl, inr, ⊎_elim}
 use Rattle.slicc_lex.specs.declared.token.Token.{Token}
-use Rattle.slicc_lex.specs.Tokens.{Reads}
+use Rattle.slicc_lex.specs.Prelude.{Reads}
 use Rattle.slicc_lex.proofs.Lexed.{lexed_more, lexed_fault, lexed_all, rest_empty, same_lexed}
 use Rattle.slicc_lex.proofs.lexer.lex.Goals as goal
 

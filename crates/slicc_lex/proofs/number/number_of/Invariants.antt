@@ -1,5 +1,5 @@
 use Rattle.std.proofs.Common.{◌≡◌, ◌≤◌, take}
-use Rattle.slicc_lex.specs.Numbers.{number_of}
+use Rattle.slicc_lex.specs.Prelude.{number_of}
 use Rattle.slicc_lex.proofs.number.number_of.Given as goal
 
 -- the number that the digits so far stand for

@@ -1,6 +1,6 @@
 use Rattle.std.proofs.Common.{◌≡◌, drop, find}
 use Rattle.std.specs.Str.{bytes_eq}
-use Rattle.slicc_lex.specs.Words.{word_bytes}
+use Rattle.slicc_lex.specs.Prelude.{word_bytes}
 use Rattle.slicc_lex.proofs.word.first_of.Given as goal
 
 -- what the list has is what is left of it has

@@ -1,5 +1,5 @@
 use Rattle.std.proofs.Common.{ap, ◌∙◌}
-use Rattle.slicc_names.specs.Counting.{found_after}
+use Rattle.slicc_names.specs.Prelude.{found_after}
 use Rattle.slicc_names.proofs.Counts.{found_on}
 use Rattle.slicc_names.proofs.count.count_each.Goals as goal
 

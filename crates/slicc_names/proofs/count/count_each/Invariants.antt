@@ -1,5 +1,5 @@
 use Rattle.std.proofs.Common.{◌≡◌, flat_map, take}
-use Rattle.slicc_names.specs.Counting.{found_after}
+use Rattle.slicc_names.specs.Prelude.{found_after}
 use Rattle.slicc_names.proofs.count.count_each.Given as goal
 
 abbrev pub invariant-loop-part : goal.invariant-loop-part

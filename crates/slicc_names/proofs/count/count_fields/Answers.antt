@@ -1,5 +1,5 @@
 use Rattle.std.proofs.Common.{ap, ◌∙◌}
-use Rattle.slicc_names.specs.Counting.{field_places, found_after}
+use Rattle.slicc_names.specs.Prelude.{field_places, found_after}
 use Rattle.slicc_names.proofs.Counts.{found_on}
 use Rattle.slicc_names.proofs.count.count_fields.Goals as goal
 

@@ -1,5 +1,5 @@
 use Rattle.std.proofs.Common.{◌≡◌, flat_map, take}
-use Rattle.slicc_names.specs.Counting.{field_places, found_after}
+use Rattle.slicc_names.specs.Prelude.{field_places, found_after}
 use Rattle.slicc_names.proofs.count.count_fields.Given as goal
 
 abbrev pub invariant-loop-m : goal.invariant-loop-m

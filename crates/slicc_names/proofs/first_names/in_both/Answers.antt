@@ -1,7 +1,7 @@
 use Rattle.std.proofs.Common.{◌≡◌, flat_map}
 use Rattle.std.proofs.lemmas.Result.{IfOk-weaker}
-use Rattle.slicc_plan.specs.Order.{first_after}
-use Rattle.slicc_plan.specs.TwiceDeclared.{names_of, repeated_after}
+use Rattle.slicc_plan.specs.Prelude.{first_after, repeated_after}
+use Rattle.slicc_plan.specs.TwiceDeclared.{names_of}
 use Rattle.slicc_names.proofs.Repeats.{two_lists}
 use Rattle.slicc_names.proofs.first_names.in_both.Goals as goal
 

@@ -1,8 +1,7 @@
 use Rattle.std.proofs.Common.{sym, ap, ◌∙◌, flat_map}
-use Rattle.declared_types.specs.Lent.{declaration_of}
-use Rattle.slicc_plan.specs.Limits.{beyond, fields_in, most_fields}
-use Rattle.slicc_plan.specs.Order.{first_after}
-use Rattle.slicc_names.specs.Counting.{field_places, found_after, told_found}
+use Rattle.declared_types.specs.Prelude.{declaration_of}
+use Rattle.slicc_plan.specs.Prelude.{beyond, fields_in, most_fields, first_after}
+use Rattle.slicc_names.specs.Prelude.{field_places, found_after, told_found}
 use Rattle.slicc_names.specs.declared.count.Found.TheVariants.{Left}
 use Rattle.slicc_names.proofs.Fields.{fields_of}
 use Rattle.slicc_names.proofs.limits.fields_limit.Goals as goal

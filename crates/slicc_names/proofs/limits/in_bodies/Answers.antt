@@ -1,9 +1,7 @@
 use Rattle.std.proofs.Common.{flat_map, sym, ap, ◌∙◌}
 use Rattle.std.proofs.lemmas.List.Folds.{flat_map-map}
-use Rattle.declared_types.specs.Lent.{declaration_of}
-use Rattle.slicc_plan.specs.Limits.{beyond_in_body}
-use Rattle.slicc_plan.specs.Scopes.{bodies_in}
-use Rattle.slicc_plan.specs.Order.{first_after}
+use Rattle.declared_types.specs.Prelude.{declaration_of}
+use Rattle.slicc_plan.specs.Prelude.{beyond_in_body, bodies_in, first_after}
 use Rattle.slicc_names.proofs.Parts.{flat_flat}
 use Rattle.slicc_names.proofs.Steps.{told_all, told_taken}
 use Rattle.slicc_names.proofs.limits.in_bodies.Goals as goal

@@ -1,7 +1,6 @@
 use Rattle.std.proofs.Common.{sym, ap, ◌∙◌}
-use Rattle.slicc_plan.specs.Blocks.{body_locals}
-use Rattle.slicc_plan.specs.Order.{first_after}
-use Rattle.slicc_names.specs.Counting.{told_found}
+use Rattle.slicc_plan.specs.Prelude.{body_locals, first_after}
+use Rattle.slicc_names.specs.Prelude.{told_found}
 use Rattle.slicc_names.proofs.Counts.{beyond_found}
 use Rattle.slicc_names.proofs.limits.in_body.Goals as goal
 

@@ -1,8 +1,7 @@
 use Rattle.std.proofs.Common.{sym, ap, ◌∙◌}
 use Rattle.std.proofs.lemmas.List.Folds.{flat_map-map}
-use Rattle.declared_types.specs.Lent.{declaration_of}
-use Rattle.slicc_plan.specs.Limits.{beyond_in_declaration}
-use Rattle.slicc_plan.specs.Order.{first_after}
+use Rattle.declared_types.specs.Prelude.{declaration_of}
+use Rattle.slicc_plan.specs.Prelude.{beyond_in_declaration, first_after}
 use Rattle.slicc_names.proofs.Steps.{told_all, told_taken}
 use Rattle.slicc_names.proofs.limits.in_declarations.Goals as goal
 

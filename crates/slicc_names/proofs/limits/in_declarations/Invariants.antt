@@ -1,7 +1,6 @@
 use Rattle.std.proofs.Common.{◌≡◌, flat_map, take}
-use Rattle.declared_types.specs.Lent.{declaration_of}
-use Rattle.slicc_plan.specs.Limits.{beyond_in_declaration}
-use Rattle.slicc_plan.specs.Order.{first_after}
+use Rattle.declared_types.specs.Prelude.{declaration_of}
+use Rattle.slicc_plan.specs.Prelude.{beyond_in_declaration, first_after}
 use Rattle.slicc_names.proofs.limits.in_declarations.Given as goal
 
 abbrev pub invariant-loop-d : goal.invariant-loop-d

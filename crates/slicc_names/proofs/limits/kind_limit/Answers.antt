@@ -1,8 +1,8 @@
 use Rattle.std.proofs.Common.{sym, ap, ◌∙◌}
 use Rattle.std.proofs.lemmas.List.Folds.{flat_map-map}
-use Rattle.declared_types.specs.Lent.{declaration_of, declarations_of}
-use Rattle.slicc_plan.specs.Order.{first_after}
-use Rattle.slicc_names.specs.Counting.{found_after, if_counted, is_of_kind, told_found}
+use Rattle.declared_types.specs.Prelude.{declaration_of, declarations_of}
+use Rattle.slicc_plan.specs.Prelude.{first_after}
+use Rattle.slicc_names.specs.Prelude.{found_after, if_counted, is_of_kind, told_found}
 use Rattle.slicc_names.specs.declared.count.Found.TheVariants.{Left}
 use Rattle.slicc_names.proofs.Counts.{beyond_passing}
 use Rattle.slicc_names.proofs.limits.kind_limit.Goals as goal

@@ -1,9 +1,8 @@
 use Rattle.std.proofs.Common.{sym, ap, ◌∙◌, find, map}
 use Rattle.std.proofs.lemmas.List.{take_all}
-use Rattle.declared_types.specs.Lent.{declaration_of}
-use Rattle.slicc_plan.specs.Limits.{beyond, members_of_found, most_of_each}
-use Rattle.slicc_plan.specs.Order.{first_after}
-use Rattle.slicc_names.specs.Counting.{is_wanted}
+use Rattle.declared_types.specs.Prelude.{declaration_of}
+use Rattle.slicc_plan.specs.Prelude.{beyond, members_of_found, most_of_each, first_after}
+use Rattle.slicc_names.specs.Prelude.{is_wanted}
 use Rattle.slicc_names.proofs.Found.{found_now, none_more}
 use Rattle.slicc_names.proofs.limits.wanted_limit.Goals as goal
 

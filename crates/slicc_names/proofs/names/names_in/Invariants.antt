@@ -1,6 +1,6 @@
 use Rattle.std.proofs.Common.{◌≡◌, map, take}
-use Rattle.declared_types.specs.Lent.{declaration_of}
-use Rattle.slicc_names.specs.Names.{once_each, texts_declared}
+use Rattle.declared_types.specs.Prelude.{declaration_of}
+use Rattle.slicc_names.specs.Prelude.{once_each, texts_declared}
 use Rattle.slicc_names.proofs.names.names_in.Given as goal
 
 abbrev pub invariant-loop-d : goal.invariant-loop-d

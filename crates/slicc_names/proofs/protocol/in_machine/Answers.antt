@@ -1,6 +1,6 @@
 use Rattle.std.proofs.Common.{ap, ◌∙◌}
-use Rattle.declared_types.specs.Scopes.{scope_at}
-use Rattle.slicc_plan.specs.Order.{first_after}
+use Rattle.declared_types.specs.Prelude.{scope_at}
+use Rattle.slicc_plan.specs.Prelude.{first_after}
 use Rattle.slicc_names.proofs.MachinePlaces.{machine_told}
 use Rattle.slicc_names.proofs.protocol.in_machine.Goals as goal
 

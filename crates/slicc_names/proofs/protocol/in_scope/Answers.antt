@@ -1,7 +1,6 @@
 use Rattle.std.proofs.Common.{ap, ◌∙◌, flat_map}
-use Rattle.declared_types.specs.Scopes.{scope_at}
-use Rattle.slicc_plan.specs.Limits.{beyond_in_declaration}
-use Rattle.slicc_plan.specs.Order.{first_after}
+use Rattle.declared_types.specs.Prelude.{scope_at}
+use Rattle.slicc_plan.specs.Prelude.{beyond_in_declaration, first_after}
 use Rattle.slicc_names.proofs.MachinePlaces.{scope_told}
 use Rattle.slicc_names.proofs.protocol.in_scope.Goals as goal
 

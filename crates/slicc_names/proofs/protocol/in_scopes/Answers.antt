@@ -1,9 +1,7 @@
 use Rattle.std.proofs.Common.{◌<◌, length, arith, sym, ap, ◌∙◌}
-use Rattle.declared_types.specs.Scopes.{scope_at}
+use Rattle.declared_types.specs.Prelude.{scope_at}
 use Rattle.slicc_plan.proofs.Firsts.{first_after-flat_map}
-use Rattle.slicc_plan.specs.Declarations.{everywhere, wide_scopes}
-use Rattle.slicc_plan.specs.Limits.{beyond_in_scope}
-use Rattle.slicc_plan.specs.Order.{first_after}
+use Rattle.slicc_plan.specs.Prelude.{everywhere, wide_scopes, beyond_in_scope, first_after}
 use Rattle.slicc_names.proofs.protocol.in_scopes.Goals as goal
 
 pub loop-number-preserved : goal.loop-number-preserved

@@ -1,7 +1,5 @@
 use Rattle.std.proofs.Common.{◌≡◌, flat_map, take}
-use Rattle.slicc_plan.specs.Declarations.{wide_scopes}
-use Rattle.slicc_plan.specs.Limits.{beyond_in_scope}
-use Rattle.slicc_plan.specs.Order.{first_after}
+use Rattle.slicc_plan.specs.Prelude.{wide_scopes, beyond_in_scope, first_after}
 use Rattle.slicc_names.proofs.protocol.in_scopes.Given as goal
 
 abbrev pub invariant-loop-number : goal.invariant-loop-number

@@ -1,9 +1,8 @@
 use Rattle.std.proofs.Common.{ap, ◌∙◌, filter}
-use Rattle.declared_types.specs.Lent.{declarations_of}
-use Rattle.slicc_plan.specs.Limits.{beyond, is_machine}
-use Rattle.slicc_plan.specs.Order.{first_after}
-use Rattle.slicc_names.specs.Counting.{told_found}
-use Rattle.slicc_names.specs.declared.kinds.Kind.TheVariants.{Enumeration, Structure}
+use Rattle.declared_types.specs.Prelude.{declarations_of}
+use Rattle.slicc_plan.specs.Prelude.{beyond, is_machine, first_after}
+use Rattle.slicc_names.specs.Prelude.{told_found}
+use Rattle.slicc_names.specs.declared.count.Kind.TheVariants.{Enumeration, Structure}
 use Rattle.slicc_names.proofs.MachinePlaces.{kinds_told, protocol_told}
 use Rattle.slicc_names.proofs.protocol.limits_passed.Goals as goal
 

@@ -1,4 +1,4 @@
-use Rattle.declared_types.specs.Lent.{declarations_of}
+use Rattle.declared_types.specs.Prelude.{declarations_of}
 use Rattle.slicc_names.proofs.MachinePlaces.{kind_limits_told}
 use Rattle.slicc_names.proofs.protocol.of_kinds.Goals as goal
 

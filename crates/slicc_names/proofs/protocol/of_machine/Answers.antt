@@ -1,10 +1,7 @@
 use Rattle.std.proofs.Common.{ap, ◌∙◌, flat_map}
-use Rattle.declared_types.specs.Scopes.{scope_at}
-use Rattle.slicc_plan.specs.Declarations.{declared_in}
-use Rattle.slicc_plan.specs.Limits.{beyond_in_body}
-use Rattle.slicc_plan.specs.Order.{first_after}
-use Rattle.slicc_plan.specs.Scopes.{bodies_in}
-use Rattle.slicc_names.specs.Counting.{kind_limits}
+use Rattle.declared_types.specs.Prelude.{scope_at}
+use Rattle.slicc_plan.specs.Prelude.{declared_in, beyond_in_body, first_after, bodies_in}
+use Rattle.slicc_names.specs.Prelude.{kind_limits}
 use Rattle.slicc_names.proofs.MachinePlaces.{limits_told}
 use Rattle.slicc_names.proofs.protocol.of_machine.Goals as goal
 

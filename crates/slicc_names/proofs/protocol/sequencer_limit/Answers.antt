@@ -1,11 +1,8 @@
 use Rattle.std.proofs.Common.{Bool, filter, flat_map, sym, ap, ◌∙◌}
 use Rattle.std.proofs.lemmas.List.Folds.{flat_map-map}
-use Rattle.declared_types.specs.Lent.{declaration_of, declarations_of}
-use Rattle.declared_types.specs.Scopes.{scope_at}
-use Rattle.slicc_plan.specs.Declarations.{Declaration}
-use Rattle.slicc_plan.specs.Limits.{beyond}
-use Rattle.slicc_plan.specs.Order.{first_after}
-use Rattle.slicc_names.specs.Counting.{found_after, is_sequencer_in, place_if, told_found}
+use Rattle.declared_types.specs.Prelude.{declaration_of, declarations_of, scope_at}
+use Rattle.slicc_plan.specs.Prelude.{Declaration, beyond, first_after}
+use Rattle.slicc_names.specs.Prelude.{found_after, is_sequencer_in, place_if, told_found}
 use Rattle.slicc_names.specs.declared.count.Found.TheVariants.{Left}
 use Rattle.slicc_names.proofs.Counts.{beyond_passing, found_end, found_on}
 use Rattle.slicc_names.proofs.protocol.sequencer_limit.Goals as goal

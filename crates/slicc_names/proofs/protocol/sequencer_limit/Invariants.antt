@@ -1,7 +1,6 @@
 use Rattle.std.proofs.Common.{◌≡◌, flat_map, take}
-use Rattle.declared_types.specs.Lent.{declaration_of}
-use Rattle.declared_types.specs.Scopes.{scope_at}
-use Rattle.slicc_names.specs.Counting.{found_after, is_sequencer_in, place_if}
+use Rattle.declared_types.specs.Prelude.{declaration_of, scope_at}
+use Rattle.slicc_names.specs.Prelude.{found_after, is_sequencer_in, place_if}
 use Rattle.slicc_names.specs.declared.count.Found.TheVariants.{Left}
 use Rattle.slicc_names.proofs.protocol.sequencer_limit.Given as goal
 

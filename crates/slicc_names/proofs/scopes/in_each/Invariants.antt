@@ -1,6 +1,5 @@
 use Rattle.std.proofs.Common.{◌≡◌, flat_map, take}
-use Rattle.slicc_plan.specs.Order.{first_after}
-use Rattle.slicc_plan.specs.TwiceDeclared.{repeated}
+use Rattle.slicc_plan.specs.Prelude.{first_after, repeated}
 use Rattle.slicc_names.proofs.scopes.in_each.Given as goal
 
 abbrev pub invariant-loop-part : goal.invariant-loop-part

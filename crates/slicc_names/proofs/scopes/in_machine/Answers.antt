@@ -1,11 +1,7 @@
 use Rattle.std.proofs.Common.{◌++◌, flat_map, ap, sym, ◌∙◌}
 use Rattle.std.proofs.lemmas.Result.{IfOk-weaker}
-use Rattle.slicc_names.specs.Declaring.{one_parameter}
-use Rattle.slicc_names.specs.Repeated.{decl_scopes}
-use Rattle.slicc_plan.specs.Declarations.{machine_declarations, named_declarations}
-use Rattle.slicc_plan.specs.Order.{first_after}
-use Rattle.slicc_plan.specs.Scopes.{inner_scopes}
-use Rattle.slicc_plan.specs.TwiceDeclared.{repeated}
+use Rattle.slicc_names.specs.Prelude.{one_parameter, decl_scopes}
+use Rattle.slicc_plan.specs.Prelude.{machine_declarations, named_declarations, first_after, inner_scopes, repeated}
 use Rattle.slicc_names.proofs.Parts.{each_parameter, machine_inside}
 use Rattle.slicc_names.proofs.Steps.{told_in_body}
 use Rattle.slicc_names.proofs.scopes.in_machine.Goals as goal

@@ -1,10 +1,7 @@
 use Rattle.std.proofs.Common.{◌≡◌, ◌∷◌, [], false, flat_map, map, ap, sym, ◌∙◌, cond, append-nil}
 use Rattle.std.proofs.lemmas.Result.{IfOk-weaker}
-use Rattle.slicc_names.specs.Declaring.{one_member}
-use Rattle.slicc_plan.specs.Declarations.{is_external, member}
-use Rattle.slicc_plan.specs.Order.{first_after}
-use Rattle.slicc_plan.specs.Scopes.{member_scopes}
-use Rattle.slicc_plan.specs.TwiceDeclared.{repeated}
+use Rattle.slicc_names.specs.Prelude.{one_member}
+use Rattle.slicc_plan.specs.Prelude.{is_external, member, first_after, member_scopes, repeated}
 use Rattle.slicc_names.proofs.Parts.{each_member}
 use Rattle.slicc_names.proofs.Steps.{told_in_body}
 use Rattle.slicc_names.proofs.scopes.in_structure.Goals as goal

@@ -1,10 +1,7 @@
 use Rattle.std.proofs.Common.{flat_map, ap, sym, ◌∙◌, []}
 use Rattle.std.proofs.lemmas.Result.{IfOk-weaker}
 use Rattle.slicc_plan.proofs.Firsts.{first_after-append}
-use Rattle.slicc_plan.specs.Declarations.{global_declarations}
-use Rattle.slicc_plan.specs.Order.{first_after}
-use Rattle.slicc_plan.specs.Scopes.{scopes_within}
-use Rattle.slicc_plan.specs.TwiceDeclared.{globally_repeated_after, repeated}
+use Rattle.slicc_plan.specs.Prelude.{global_declarations, first_after, scopes_within, globally_repeated_after, repeated}
 use Rattle.slicc_names.proofs.Parts.{trees_inside}
 use Rattle.slicc_names.proofs.twice.names_twice_declared.Goals as goal
 

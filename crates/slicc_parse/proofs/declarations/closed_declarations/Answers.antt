@@ -1,9 +1,8 @@
 use Rattle.std.proofs.Common.{sym}
-use Rattle.slicc_ast.specs.Machines.{decl_list}
+use Rattle.slicc_ast.specs.Prelude.{decl_list, declaration, of}
 use Rattle.slicc_ast.specs.declared.tree.token.Sign.TheVariants.{CloseBrace}
-use Rattle.slicc_ast.specs.Form.Form.{declaration}
-use Rattle.slicc_ast.specs.Parts.{of, sign}
-use Rattle.slicc_reading.specs.Reading.Refuses.{no_memory}
+use Rattle.slicc_ast.specs.Parts.{sign}
+use Rattle.slicc_reading.specs.Prelude.{no_memory}
 use Rattle.slicc_reading.proofs.Parts.{◌then◌, as_part, at_first, behind}
 use Rattle.slicc_parse.proofs.Lists.{decl_parts, each_decl}
 use Rattle.slicc_parse.proofs.Starts.{behind_decl}

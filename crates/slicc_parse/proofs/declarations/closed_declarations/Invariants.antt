@@ -1,6 +1,5 @@
 use Rattle.std.proofs.Common.{length}
-use Rattle.slicc_ast.specs.Form.Form.{declaration}
-use Rattle.slicc_ast.specs.Parts.{of}
+use Rattle.slicc_ast.specs.Prelude.{declaration, of}
 use Rattle.slicc_parse.proofs.Lists.{decl_parts}
 use Rattle.slicc_reading.proofs.Repeats.{AreRepeated}
 use Rattle.slicc_parse.proofs.declarations.closed_declarations.Given as goal

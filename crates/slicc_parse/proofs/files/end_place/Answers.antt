@@ -1,5 +1,5 @@
 use Rattle.std.proofs.Common.{◌∷◌, []}
-use Rattle.slicc_ast.specs.TokenKinds.{end_of_text}
+use Rattle.slicc_ast.specs.Prelude.{end_of_text}
 use Rattle.slicc_parse.proofs.FileEnds.{end_at}
 use Rattle.slicc_reading.proofs.Parts.{no_token_refused, other_token_refused}
 use Rattle.slicc_parse.proofs.files.end_place.Goals as goal

@@ -1,6 +1,5 @@
 use Rattle.std.proofs.Common.{ap, refl, sym}
-use Rattle.slicc_ast.specs.Form.Form.{file}
-use Rattle.slicc_ast.specs.Parts.{end_token}
+use Rattle.slicc_ast.specs.Prelude.{file, end_token}
 use Rattle.slicc_parse.proofs.FileEnds.{file_read}
 use Rattle.slicc_reading.proofs.Parts.{at_first, at_no_alternative, behind, in_alternative}
 use Rattle.slicc_parse.proofs.files.file.Goals as goal

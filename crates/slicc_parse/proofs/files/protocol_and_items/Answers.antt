@@ -1,4 +1,4 @@
-use Rattle.slicc_parse.specs.Rows.{items_row}
+use Rattle.slicc_parse.specs.Prelude.{items_row}
 use Rattle.slicc_reading.proofs.Parts.{◌then◌, at_first, behind}
 use Rattle.slicc_parse.proofs.files.protocol_and_items.Goals as goal
 

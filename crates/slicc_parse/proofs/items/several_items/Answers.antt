@@ -1,10 +1,10 @@
 use Rattle.std.proofs.Common.{sym}
 use Rattle.slicc_ast.specs.Form.Form.{item}
-use Rattle.slicc_ast.specs.Parts.{of, repeated}
-use Rattle.slicc_parse.specs.Rows.{items_parts}
+use Rattle.slicc_ast.specs.Prelude.{of, repeated}
+use Rattle.slicc_parse.specs.Prelude.{items_parts}
 use Rattle.slicc_parse.proofs.Lists.{each_item, item_parts}
 use Rattle.slicc_parse.proofs.Starts.{behind_item}
-use Rattle.slicc_reading.specs.Reading.Refuses.{no_memory}
+use Rattle.slicc_reading.specs.Prelude.{no_memory}
 use Rattle.slicc_reading.proofs.Parts.{as_part, at_first}
 use Rattle.slicc_reading.proofs.Repeats.{first_read, one_further, fault_in_further, all_separated, some_separated}
 use Rattle.slicc_parse.proofs.items.several_items.Goals as goal

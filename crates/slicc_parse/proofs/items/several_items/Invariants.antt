@@ -1,6 +1,6 @@
 use Rattle.std.proofs.Common.{length}
 use Rattle.slicc_ast.specs.Form.Form.{item}
-use Rattle.slicc_ast.specs.Parts.{of}
+use Rattle.slicc_ast.specs.Prelude.{of}
 use Rattle.slicc_parse.proofs.Lists.{item_parts}
 use Rattle.slicc_reading.proofs.Repeats.{AreSeparated}
 use Rattle.slicc_parse.proofs.items.several_items.Given as goal

@@ -1,18 +1,16 @@
 use Rattle.std.proofs.Common.{◌∷◌, [], refl, sym}
 use Rattle.slicc_ast.specs.declared.tree.token.Sign.TheVariants.{Star}
-use Rattle.slicc_ast.specs.Form.Form.{declaration_end}
-use Rattle.slicc_ast.specs.Parts.{names_of}
-use Rattle.slicc_ast.specs.TokenKinds.{sign_kind}
+use Rattle.slicc_ast.specs.Prelude.{declaration_end, names_of, sign_kind}
 use Rattle.slicc_reading.proofs.Parts.{at_no_alternative, in_alternative, match_map, of_alternative}
 use Rattle.slicc_decl.proofs.FirstTokens.{neither_ahead}
 use Rattle.slicc_decl.proofs.NameKinds.{plain_ahead}
 use Rattle.slicc_parse.proofs.typed.declaration_end.Goals as goal
 
-pub returns-then-is_sign : goal.returns-then-is_sign
-returns-then-is_sign c =
-    match_map c.starred_end.result c.starred_end.ensures
-    (λ read is. of_alternative declaration_end 0 refl (sym c.if-is_sign.ensures) is)
-    (λ fault is. in_alternative declaration_end 0 refl (sym c.if-is_sign.ensures) is)
+pub returns-in-Ok : goal.returns-in-Ok
+returns-in-Ok c = of_alternative declaration_end 0 refl (sym c.if-is_sign.ensures) c.in-Ok.ensures
+
+pub returns-in-Err : goal.returns-in-Err
+returns-in-Err c = in_alternative declaration_end 0 refl (sym c.if-is_sign.ensures) c.in-Err.ensures
 
 pub returns-then-is_skipped_name : goal.returns-then-is_skipped_name
 returns-then-is_skipped_name c =

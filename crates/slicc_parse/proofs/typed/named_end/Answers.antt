@@ -1,7 +1,6 @@
 use Rattle.std.proofs.Common.{◌∷◌, [], refl, sym}
 use Rattle.slicc_ast.specs.declared.tree.token.Sign.TheVariants.{Comma, OpenParenthesis, Semicolon}
-use Rattle.slicc_ast.specs.Form.Form.{named_end}
-use Rattle.slicc_ast.specs.TokenKinds.{sign_kind}
+use Rattle.slicc_ast.specs.Prelude.{named_end, sign_kind}
 use Rattle.slicc_reading.proofs.Parts.{at_no_alternative, in_alternative, match_map, of_alternative}
 use Rattle.slicc_decl.proofs.FirstTokens.{neither_ahead}
 use Rattle.slicc_parse.proofs.typed.named_end.Goals as goal

@@ -1,7 +1,5 @@
 use Rattle.std.proofs.Common.{◌∷◌, []}
-use Rattle.slicc_ast.specs.Form.Form.{named_end}
-use Rattle.slicc_ast.specs.Parts.{◌▸◌, of, plain_name}
-use Rattle.slicc_ast.specs.TokenKinds.{machine_type, other_name}
+use Rattle.slicc_ast.specs.Prelude.{named_end, ◌▸◌, of, plain_name, machine_type, other_name}
 use Rattle.slicc_reading.proofs.Parts.{behind_read, match_map, read_behind}
 use Rattle.slicc_decl.proofs.NameKinds.{narrowed, not_skipped, only_memory, plain_is_name}
 use Rattle.slicc_parse.proofs.typed.plain_end.Goals as goal

@@ -1,5 +1,4 @@
-use Rattle.slicc_ast.specs.Form.Form.{declaration_end}
-use Rattle.slicc_ast.specs.Parts.{of}
+use Rattle.slicc_ast.specs.Prelude.{declaration_end, of}
 use Rattle.slicc_reading.proofs.Parts.{at_first, behind_read, match_map, read_behind}
 use Rattle.slicc_parse.proofs.typed.typed.Goals as goal
 

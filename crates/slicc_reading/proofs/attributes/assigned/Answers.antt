@@ -1,4 +1,4 @@
-use Rattle.slicc_ast.specs.Parts.{value}
+use Rattle.slicc_ast.specs.Prelude.{value}
 use Rattle.slicc_reading.proofs.Parts.{◌then◌, at_first, behind, match_map}
 use Rattle.slicc_reading.proofs.attributes.assigned.Goals as goal
 

@@ -1,5 +1,6 @@
 use Rattle.slicc_ast.specs.declared.tree.token.Sign.TheVariants.{Equals}
-use Rattle.slicc_ast.specs.Parts.{◌▸◌, sign, value}
+use Rattle.slicc_ast.specs.Parts.{sign}
+use Rattle.slicc_ast.specs.Prelude.{◌▸◌, value}
 use Rattle.slicc_reading.proofs.Parts.{◌then◌, as_node, as_part, at_first, behind}
 use Rattle.slicc_reading.proofs.attributes.named_pair.Goals as goal
 

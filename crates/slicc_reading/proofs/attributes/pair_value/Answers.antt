@@ -1,5 +1,4 @@
-use Rattle.slicc_reading.specs.Attributes.{value_kinds}
-use Rattle.slicc_reading.specs.Reading.Refuses.{no_memory}
+use Rattle.slicc_reading.specs.Prelude.{value_kinds, no_memory}
 use Rattle.slicc_reading.proofs.PairLists.{value_read}
 use Rattle.slicc_reading.proofs.Parts.{other_token_refused, no_token_refused}
 use Rattle.slicc_reading.proofs.attributes.pair_value.Goals as goal

@@ -1,8 +1,8 @@
 use Rattle.std.proofs.Common.{◌-◌, refl, sym}
-use Rattle.slicc_ast.specs.Form.{Form}
+use Rattle.slicc_ast.specs.Prelude.{Form, ◌▸◌}
 use Rattle.slicc_ast.specs.Names.{balanced, sign as sign_of}
 use Rattle.slicc_reading.proofs.BalancedParts.{braces_read, bracket_ahead, brackets_read, each_part, parentheses_read}
-use Rattle.slicc_ast.specs.Parts.{◌▸◌, balanced as balanced_form, sign}
+use Rattle.slicc_ast.specs.Parts.{balanced as balanced_form, sign}
 use Rattle.slicc_reading.proofs.GoingOn.{fewer, nests, of_read, of_value, on_fault}
 use Rattle.slicc_reading.proofs.Parts.{as_part, by_alternative, in_alternative, match_map}
 use Rattle.slicc_reading.proofs.Repeats.{all_from, fault_in_one, one_more}
@@ -34,30 +34,30 @@ bracketed-returns-in-Ok t c =
 pub bracketed-returns-in-Err-clause-read : goal.bracketed-returns-in-Err-clause-read
 bracketed-returns-in-Err-clause-read t c = c.in-Err.ensures.refused _
 
-pub in_braces-returns-in-Ok-clause-read : goal.in_braces-returns-in-Ok-clause-read
-in_braces-returns-in-Ok-clause-read t c = braces_read c.in-Ok.inner c.in-Ok.ensures.read
+pub next_part-returns-in-Ok-clause-read : goal.next_part-returns-in-Ok-clause-read
+next_part-returns-in-Ok-clause-read t c =
+    by_alternative Form.balanced_part 1 refl (sym c.if-is_sign.ensures) (parentheses_read c.in-Ok.inner c.in-Ok.ensures.read)
 
-pub in_brackets-returns-in-Ok-clause-read : goal.in_brackets-returns-in-Ok-clause-read
-in_brackets-returns-in-Ok-clause-read t c = brackets_read c.in-Ok.inner c.in-Ok.ensures.read
+pub next_part-returns-in-Err-clause-read : goal.next_part-returns-in-Err-clause-read
+next_part-returns-in-Err-clause-read t c =
+    in_alternative Form.balanced_part 1 refl (sym c.if-is_sign.ensures) c.in-Err.ensures.read
 
-pub in_parentheses-returns-in-Ok-clause-read : goal.in_parentheses-returns-in-Ok-clause-read
-in_parentheses-returns-in-Ok-clause-read t c = parentheses_read c.in-Ok.inner c.in-Ok.ensures.read
+pub next_part-returns-in-Ok-bracketed-clause-read : goal.next_part-returns-in-Ok-bracketed-clause-read
+next_part-returns-in-Ok-bracketed-clause-read t c =
+    by_alternative Form.balanced_part 2 refl (sym c.if-is_sign-2.ensures) (brackets_read c.in-Ok-bracketed.inner c.in-Ok-bracketed.ensures.read)
 
-pub next_part-returns-then-is_sign-clause-read : goal.next_part-returns-then-is_sign-clause-read
-next_part-returns-then-is_sign-clause-read t c =
-    match_map c.in_parentheses.result c.in_parentheses.ensures.read
-    (λ read is. by_alternative Form.balanced_part 1 refl (sym c.if-is_sign.ensures) is)
-    (λ fault is. in_alternative Form.balanced_part 1 refl (sym c.if-is_sign.ensures) is)
+pub next_part-returns-in-Err-bracketed-clause-read : goal.next_part-returns-in-Err-bracketed-clause-read
+next_part-returns-in-Err-bracketed-clause-read t c =
+    in_alternative Form.balanced_part 2 refl (sym c.if-is_sign-2.ensures) c.in-Err-bracketed.ensures.read
 
-pub next_part-returns-then-is_sign-2-clause-read : goal.next_part-returns-then-is_sign-2-clause-read
-next_part-returns-then-is_sign-2-clause-read t c =
-    match_map c.in_brackets.result c.in_brackets.ensures.read
-    (λ read is. by_alternative Form.balanced_part 2 refl (sym c.if-is_sign-2.ensures) is)
-    (λ fault is. in_alternative Form.balanced_part 2 refl (sym c.if-is_sign-2.ensures) is)
+pub next_part-returns-in-Ok-bracketed-2-clause-read : goal.next_part-returns-in-Ok-bracketed-2-clause-read
+next_part-returns-in-Ok-bracketed-2-clause-read t c =
+    by_alternative Form.balanced_part 3 refl
+    (bracket_ahead c.args.tokens.now c.requires (sym c.if-is_loose.ensures) (sym c.if-is_sign.ensures) (sym c.if-is_sign-2.ensures))
+    (braces_read c.in-Ok-bracketed-2.inner c.in-Ok-bracketed-2.ensures.read)
 
-pub next_part-returns-clause-read : goal.next_part-returns-clause-read
-next_part-returns-clause-read t c =
-    let ahead = bracket_ahead c.args.tokens.now c.requires (sym c.if-is_loose.ensures) (sym c.if-is_sign.ensures) (sym c.if-is_sign-2.ensures) in
-    match_map c.in_braces.result c.in_braces.ensures.read
-    (λ read is. by_alternative Form.balanced_part 3 refl ahead is)
-    (λ fault is. in_alternative Form.balanced_part 3 refl ahead is)
+pub next_part-returns-in-Err-bracketed-2-clause-read : goal.next_part-returns-in-Err-bracketed-2-clause-read
+next_part-returns-in-Err-bracketed-2-clause-read t c =
+    in_alternative Form.balanced_part 3 refl
+    (bracket_ahead c.args.tokens.now c.requires (sym c.if-is_loose.ensures) (sym c.if-is_sign.ensures) (sym c.if-is_sign-2.ensures))
+    c.in-Err-bracketed-2.ensures.read

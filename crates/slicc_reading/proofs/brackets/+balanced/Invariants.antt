@@ -1,8 +1,7 @@
 -- How deep the cycle of functions goes: each call has fewer tokens left, or comes later in this order.
 use Rattle.std.proofs.Common.{◌+◌, ◌*◌, length}
 use Rattle.slicc_ast.specs.Names.{balanced_part}
-use Rattle.slicc_ast.specs.Form.{Form}
-use Rattle.slicc_ast.specs.Parts.{of}
+use Rattle.slicc_ast.specs.Prelude.{Form, of}
 use Rattle.slicc_reading.proofs.Repeats.{AreRepeated}
 use Rattle.slicc_reading.proofs.brackets.+balanced.Given as goal
 
@@ -11,15 +10,6 @@ decreases-balanced l = 4 * length l.tokens.now + 3
 
 abbrev pub decreases-bracketed : goal.decreases-bracketed
 decreases-bracketed l = 4 * length l.tokens.now
-
-abbrev pub decreases-in_braces : goal.decreases-in_braces
-decreases-in_braces l = 4 * length l.tokens.now + 1
-
-abbrev pub decreases-in_brackets : goal.decreases-in_brackets
-decreases-in_brackets l = 4 * length l.tokens.now + 1
-
-abbrev pub decreases-in_parentheses : goal.decreases-in_parentheses
-decreases-in_parentheses l = 4 * length l.tokens.now + 1
 
 abbrev pub decreases-next_part : goal.decreases-next_part
 decreases-next_part l = 4 * length l.tokens.now + 2

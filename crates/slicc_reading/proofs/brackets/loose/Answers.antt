@@ -1,4 +1,4 @@
-use Rattle.slicc_reading.specs.Reading.Refuses.{no_memory}
+use Rattle.slicc_reading.specs.Prelude.{no_memory}
 use Rattle.slicc_reading.proofs.BalancedParts.{loose_read}
 use Rattle.slicc_reading.proofs.brackets.loose.Goals as goal
 

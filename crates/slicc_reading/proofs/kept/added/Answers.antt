@@ -1,4 +1,4 @@
-use Rattle.slicc_reading.specs.Reading.Refuses.{no_memory}
+use Rattle.slicc_reading.specs.Prelude.{no_memory}
 use Rattle.slicc_reading.proofs.kept.added.Goals as goal
 
 pub returns-in-Err-push-clause-refused : goal.returns-in-Err-push-clause-refused

@@ -1,5 +1,5 @@
 use Rattle.std.proofs.Common.{◌<◌, arith, length}
-use Rattle.slicc_ast.specs.Parts.{sign as sign_part}
+use Rattle.slicc_ast.specs.Parts.{sign}
 use Rattle.slicc_reading.proofs.Parts.{◌then◌, at_first, behind}
 use Rattle.slicc_reading.proofs.kept.ended.Goals as goal
 
@@ -14,4 +14,4 @@ pub returns-in-Err-sign-clause-read : goal.returns-in-Err-sign-clause-read
 returns-in-Err-sign-clause-read g c part parts start h = behind (rw c.in-Ok.is at h) c.in-Err-sign.ensures.read
 
 pub returns-in-Err-clause-read : goal.returns-in-Err-clause-read
-returns-in-Err-clause-read g c part parts start h = at_first (sign_part c.args.closer) (rw c.in-Err.is at h)
+returns-in-Err-clause-read g c part parts start h = at_first (sign c.args.closer) (rw c.in-Err.is at h)

@@ -1,6 +1,7 @@
 use Rattle.slicc_ast.specs.Names.{sign as sign_of, word as word_of}
 use Rattle.slicc_ast.specs.declared.tree.token.Sign.TheVariants.{CloseParenthesis, OpenParenthesis}
-use Rattle.slicc_ast.specs.Parts.{◌▸◌, parentheses, sign, word}
+use Rattle.slicc_ast.specs.Parts.{sign, word}
+use Rattle.slicc_ast.specs.Prelude.{◌▸◌, parentheses}
 use Rattle.slicc_reading.proofs.GoingOn.{calls, weaker}
 use Rattle.slicc_reading.proofs.kept.ended_call.Goals as goal
 

@@ -1,7 +1,6 @@
 use Rattle.std.proofs.Common.{◌∷◌, ◌∙◌, [], sym, ap}
 use Rattle.slicc_ast.specs.declared.tree.token.TokenKind.TheVariants.{Sign}
-use Rattle.slicc_ast.specs.Kinds.{has}
-use Rattle.slicc_ast.specs.TokenKinds.{kind_of, sign_kind}
+use Rattle.slicc_ast.specs.Prelude.{has, kind_of, sign_kind}
 use Rattle.slicc_reading.proofs.KindsApart.{no_sign, sign_same, sign_tested}
 use Rattle.slicc_reading.proofs.leaf.is_sign_kind.Goals as goal
 

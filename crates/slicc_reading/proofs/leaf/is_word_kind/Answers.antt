@@ -1,7 +1,6 @@
 use Rattle.std.proofs.Common.{◌∷◌, ◌∙◌, [], sym, ap}
 use Rattle.slicc_ast.specs.declared.tree.token.TokenKind.TheVariants.{Word}
-use Rattle.slicc_ast.specs.Kinds.{has}
-use Rattle.slicc_ast.specs.TokenKinds.{kind_of, word_kind}
+use Rattle.slicc_ast.specs.Prelude.{has, kind_of, word_kind}
 use Rattle.slicc_reading.proofs.KindsApart.{no_word, word_same, word_tested}
 use Rattle.slicc_reading.proofs.leaf.is_word_kind.Goals as goal
 

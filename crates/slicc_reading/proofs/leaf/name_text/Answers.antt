@@ -1,5 +1,5 @@
-use Rattle.slicc_ast.specs.Parts.{names_of}
-use Rattle.slicc_reading.specs.Reading.Refuses.{no_memory}
+use Rattle.slicc_ast.specs.Prelude.{names_of}
+use Rattle.slicc_reading.specs.Prelude.{no_memory}
 use Rattle.slicc_reading.proofs.Parts.{name_read, other_token_refused, no_token_refused}
 use Rattle.slicc_reading.proofs.leaf.name_text.Goals as goal
 

@@ -1,5 +1,5 @@
 use Rattle.std.proofs.Common.{◌∷◌, ◌∙◌, [], true, false, sym, arith}
-use Rattle.slicc_ast.specs.TokenKinds.{sign_kind}
+use Rattle.slicc_ast.specs.Prelude.{sign_kind}
 use Rattle.slicc_reading.proofs.Parts.{first_ahead, none_ahead, not_opened, opened_too_deep}
 use Rattle.slicc_reading.proofs.leaf.open.Goals as goal
 

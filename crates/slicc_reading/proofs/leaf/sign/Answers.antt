@@ -1,6 +1,6 @@
 use Rattle.std.proofs.Common.{◌∷◌, []}
 use Rattle.slicc_ast.specs.declared.tree.token.TokenKind.TheVariants.{Sign}
-use Rattle.slicc_ast.specs.TokenKinds.{sign_kind}
+use Rattle.slicc_ast.specs.Prelude.{sign_kind}
 use Rattle.slicc_reading.proofs.Parts.{token_read, other_token_refused, no_token_refused}
 use Rattle.slicc_reading.proofs.leaf.sign.Goals as goal
 

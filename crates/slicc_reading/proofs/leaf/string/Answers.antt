@@ -1,6 +1,6 @@
 use Rattle.std.proofs.Common.{◌∷◌, []}
-use Rattle.slicc_ast.specs.TokenKinds.{quoted}
-use Rattle.slicc_reading.specs.Reading.Refuses.{no_memory}
+use Rattle.slicc_ast.specs.Prelude.{quoted}
+use Rattle.slicc_reading.specs.Prelude.{no_memory}
 use Rattle.slicc_reading.proofs.Parts.{string_read, other_token_refused, no_token_refused}
 use Rattle.slicc_reading.proofs.leaf.string.Goals as goal
 

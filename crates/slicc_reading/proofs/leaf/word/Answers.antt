@@ -1,6 +1,6 @@
 use Rattle.std.proofs.Common.{◌∷◌, []}
 use Rattle.slicc_ast.specs.declared.tree.token.TokenKind.TheVariants.{Word}
-use Rattle.slicc_ast.specs.TokenKinds.{word_kind}
+use Rattle.slicc_ast.specs.Prelude.{word_kind}
 use Rattle.slicc_reading.proofs.Parts.{token_read, other_token_refused, no_token_refused}
 use Rattle.slicc_reading.proofs.leaf.word.Goals as goal
 

@@ -1,7 +1,6 @@
 use Rattle.std.proofs.Common.{◌≡◌, true, rules, ◌∷◌, [], refl, sym, subst}
 use Rattle.slicc_ast.specs.declared.tree.token.TokenKind.TheVariants.{Number}
-use Rattle.slicc_ast.specs.Kinds.{has}
-use Rattle.slicc_ast.specs.TokenKinds.{kind_of, number}
+use Rattle.slicc_ast.specs.Prelude.{has, kind_of, number}
 use Rattle.slicc_reading.proofs.Parts.{other_token_refused, no_token_refused, token_read}
 use Rattle.slicc_reading.proofs.numbers.number.Goals as goal
 

@@ -3,7 +3,7 @@ use Rattle.slicc_same.proofs.NotParts.{not_token, not_parentheses, not_brackets,
 use Rattle.std.proofs.Common.{rules}
 use Rattle.slicc_ast.specs.declared.tree.balanced.Part.TheViews.{the_lemmas}
 use Rattle.slicc_same.proofs.Bools.{and_true, and_false, listed}
-use Rattle.slicc_same.specs.AlikeItems.{alike_part}
+use Rattle.slicc_same.specs.Prelude.{alike_part}
 use Rattle.slicc_same.proofs.BalancedLists.{list_of_row, balanced_alike}
 use Rattle.slicc_same.proofs.balanced.+balanced.Goals as goal
 

@@ -1,6 +1,5 @@
 use Rattle.std.proofs.Common.{◌≡◌, drop}
-use Rattle.slicc_same.specs.Alike.{all_alike}
-use Rattle.slicc_same.specs.AlikeItems.{alike_part}
+use Rattle.slicc_same.specs.Prelude.{all_alike, alike_part}
 use Rattle.slicc_same.proofs.balanced.+balanced.Given as goal
 
 abbrev pub invariant-all_same_parts-loop-x : goal.invariant-all_same_parts-loop-x

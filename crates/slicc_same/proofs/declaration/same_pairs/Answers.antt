@@ -1,5 +1,5 @@
 use Rattle.slicc_ast.specs.Declarations.{pair}
-use Rattle.slicc_same.specs.Alike.{same_shape}
+use Rattle.slicc_same.specs.Prelude.{same_shape}
 use Rattle.slicc_same.proofs.Bools.{listed}
 use Rattle.slicc_same.proofs.ItemLists.{pairs_alike}
 use Rattle.slicc_same.proofs.declaration.same_pairs.Goals as goal

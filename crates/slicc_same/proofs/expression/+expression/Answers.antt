@@ -1,12 +1,11 @@
 use Rattle.std.proofs.Common.{◌≡◌, ◌==◌, ◌&&◌, true, false, length, ◌∙◌, sym}
 use Rattle.std.specs.Str.{bytes_eq}
-use Rattle.slicc_same.specs.AlikeItems.{alike_expr, alike_operand, alike_suffix}
+use Rattle.slicc_same.specs.Prelude.{alike_expr, alike_operand, alike_suffix, same_parts, same_shape}
 use Rattle.slicc_same.proofs.Bools.{and_true, and_false, both_asked, first_asked, listed}
 use Rattle.slicc_same.proofs.ExpressionForms.{expr_is}
 use Rattle.slicc_same.proofs.ExpressionLists.{args_alike}
-use Rattle.slicc_ast.specs.Expressions.{expr, mode_parts, suffix}
-use Rattle.slicc_ast.specs.Outline.{none}
-use Rattle.slicc_same.specs.Alike.{same_parts, same_shape}
+use Rattle.slicc_ast.specs.Expressions.{suffix}
+use Rattle.slicc_ast.specs.Prelude.{expr, mode_parts, none}
 use Rattle.slicc_same.proofs.Turns.{left_ends, next_turn, right_ends, unlike_turn}
 use Rattle.slicc_same.proofs.AlikeForms.{same_at, known_first, alike_Not, alike_Negate, alike_IsValid, alike_IsInvalid, alike_Group, alike_Operation, alike_Postfix, alike_Operation_Postfix, alike_Postfix_Operation, alike_Cast, known_second, alike_Call, alike_Member, alike_New, alike_Field, alike_Method, unlike, unlike_Not, unlike_Negate, unlike_Number, unlike_True, unlike_False, unlike_Nothing, unlike_Variable, unlike_Member, unlike_New, unlike_IsValid, unlike_IsInvalid, unlike_Cast, unlike_Group, unlike_Operation, unlike_Postfix, unlike_Call}
 use Rattle.slicc_same.proofs.expression.+expression.Goals.{same_expr-then-is_empty, same_expr-else-is_empty, same_expr-then-is_empty-3, same_expr-else-is_empty-3, same_expr-then-same_type, same_expr-else-same_type}

@@ -1,6 +1,5 @@
 use Rattle.std.proofs.Common.{◌≡◌, drop}
-use Rattle.slicc_same.specs.Alike.{all_alike}
-use Rattle.slicc_same.specs.AlikeItems.{alike_expr, alike_operand, alike_suffix}
+use Rattle.slicc_same.specs.Prelude.{all_alike, alike_expr, alike_operand, alike_suffix}
 use Rattle.slicc_same.proofs.expression.+expression.Given as goal
 
 abbrev pub invariant-all_same_values-loop-x : goal.invariant-all_same_values-loop-x

@@ -1,5 +1,5 @@
 use Rattle.std.proofs.Common.{◌≡◌, drop}
-use Rattle.slicc_same.specs.Alike.{all_alike}
+use Rattle.slicc_same.specs.Prelude.{all_alike}
 use Rattle.slicc_same.proofs.list.all_same.Given as goal
 
 abbrev pub invariant-loop-x : goal.invariant-loop-x

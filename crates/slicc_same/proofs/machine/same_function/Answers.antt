@@ -1,9 +1,8 @@
 use Rattle.std.proofs.Common.{rules, ◌≡◌, false, ◌∙◌}
 use Rattle.slicc_same.proofs.Bools.{and_false}
 use Rattle.slicc_same.proofs.MachineLists.{body_brace}
-use Rattle.slicc_ast.specs.Machines.{function}
-use Rattle.slicc_ast.specs.Outline.{shape_of}
-use Rattle.slicc_same.specs.Alike.{same_shape}
+use Rattle.slicc_ast.specs.Prelude.{function, shape_of}
+use Rattle.slicc_same.specs.Prelude.{same_shape}
 use Rattle.slicc_same.proofs.Symmetric.{symmetric}
 use Rattle.slicc_same.proofs.machine.same_function.Goals as goal
 

@@ -1,15 +1,12 @@
 use Rattle.std.proofs.Common.{rules, ◌≡◌, ◌&&◌, ◌∙◌, true, false, sym}
 use Rattle.std.specs.Str.{bytes_eq}
-use Rattle.slicc_ast.specs.Declarations.{pair_list}
-use Rattle.slicc_ast.specs.Outline.{none}
-use Rattle.slicc_ast.specs.Statements.{optional_expr, stmt}
-use Rattle.slicc_same.specs.Alike.{same_parts}
+use Rattle.slicc_ast.specs.Prelude.{pair_list, none, optional_expr, stmt}
+use Rattle.slicc_same.specs.Prelude.{same_parts, alike_else_if, alike_stmt}
 use Rattle.slicc_same.proofs.Turns.{left_ends, next_turn, right_ends, unlike_turn}
 use Rattle.slicc_same.proofs.AlikeForms.{same_at, known_first}
 use Rattle.slicc_same.proofs.AlikeStatements.{alike_Declare, alike_Assign, alike_Evaluate, alike_Assert, alike_Return, alike_Peek, alike_Enqueue, alike_StallAndWait, alike_CheckAllocate, alike_Error, alike_Print}
 use Rattle.slicc_same.proofs.statement.+statement.Goals.{same_stmt-then-same_type, same_stmt-else-same_type, same_stmt-then-same_name-2, same_stmt-else-same_name-2, same_stmt-then-same_type-2, same_stmt-else-same_type-2, same_stmt-then-same_name-3, same_stmt-else-same_name-3, same_stmt-then-same_type-3, same_stmt-else-same_type-3}
 use Rattle.slicc_ast.specs.declared.tree.statement.Stmt.TheViews.{the_lemmas}
-use Rattle.slicc_same.specs.AlikeItems.{alike_else_if, alike_stmt}
 use Rattle.slicc_same.proofs.Bools.{and_false, both_asked, first_asked, listed}
 use Rattle.slicc_same.proofs.StatementLists.{assert_print, check_print, enqueue_print, error_print, if_print, peek_print, print_assert, print_check, print_enqueue, print_error, print_if, print_peek, print_return, print_stall, return_print, stall_print, if_alike, if_is, statements_alike}
 use Rattle.slicc_same.proofs.statement.+statement.Goals as goal

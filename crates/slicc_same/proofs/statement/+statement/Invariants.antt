@@ -1,6 +1,5 @@
 use Rattle.std.proofs.Common.{◌≡◌, drop}
-use Rattle.slicc_same.specs.Alike.{all_alike}
-use Rattle.slicc_same.specs.AlikeItems.{alike_else_if, alike_stmt}
+use Rattle.slicc_same.specs.Prelude.{all_alike, alike_else_if, alike_stmt}
 use Rattle.slicc_same.proofs.statement.+statement.Given as goal
 
 abbrev pub invariant-all_same_statements-loop-x : goal.invariant-all_same_statements-loop-x

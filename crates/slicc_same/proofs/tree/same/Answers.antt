@@ -1,4 +1,4 @@
-use Rattle.slicc_ast.specs.Trees.{tree}
+use Rattle.slicc_ast.specs.Prelude.{tree}
 use Rattle.slicc_same.proofs.Equal.{shapes_equal}
 use Rattle.slicc_same.proofs.tree.same.Goals as goal
 

@@ -1,5 +1,5 @@
 use Rattle.std.proofs.Common.{None, ap, ◌∙◌}
-use Rattle.slicc_plan.specs.Order.{first_after}
+use Rattle.slicc_plan.specs.Prelude.{first_after}
 use Rattle.slicc_types.proofs.SharedPairs.{none_flow, none_shared}
 use Rattle.slicc_types.proofs.machines.broken_machines.Goals as goal
 

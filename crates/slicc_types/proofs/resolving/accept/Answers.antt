@@ -1,7 +1,8 @@
 use Rattle.std.proofs.Common.{Err, subst, sym}
 use Rattle.slicc_plan.specs.declared.refusal.Refusal.{Refusal}
-use Rattle.slicc_plan.specs.AllRules.{IsPlanOf, breaks_one, no_memory}
-use Rattle.slicc_types.specs.Judged.{IsResolved}
+use Rattle.slicc_plan.specs.AllRules.{breaks_one, no_memory}
+use Rattle.slicc_plan.specs.Prelude.{IsPlanOf}
+use Rattle.slicc_types.specs.Prelude.{IsResolved}
 use Rattle.slicc_types.proofs.resolving.accept.Goals as goal
 
 pub returns-in-Ok-Err : goal.returns-in-Ok-Err

@@ -1,6 +1,7 @@
 use Rattle.std.proofs.Common.{List, Ok, subst, sym}
 use Rattle.slicc_ast.specs.declared.tree.item.Tree.{Tree}
-use Rattle.slicc_plan.specs.AllRules.{IsPlanOf, keeps_all, no_memory}
+use Rattle.slicc_plan.specs.AllRules.{keeps_all, no_memory}
+use Rattle.slicc_plan.specs.Prelude.{IsPlanOf}
 use Rattle.slicc_types.proofs.resolving.plan_of.Goals as goal
 
 pub returns-in-Ok : goal.returns-in-Ok

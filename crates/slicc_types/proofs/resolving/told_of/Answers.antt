@@ -1,4 +1,4 @@
-use Rattle.slicc_plan.specs.BrokenDeclarations.{broken_declarations}
+use Rattle.slicc_plan.specs.Prelude.{broken_declarations}
 use Rattle.slicc_names.proofs.FirstOfAll.{is_none}
 use Rattle.slicc_types.proofs.Phases.{told_by_declarations}
 use Rattle.slicc_types.proofs.resolving.told_of.Goals as goal

@@ -1,4 +1,4 @@
-use Rattle.slicc_plan.specs.BrokenBodies.{broken_bodies}
+use Rattle.slicc_plan.specs.Prelude.{broken_bodies}
 use Rattle.slicc_names.proofs.FirstOfAll.{is_none}
 use Rattle.slicc_types.proofs.Phases.{told_by_bodies}
 use Rattle.slicc_types.proofs.resolving.told_of_bodies.Goals as goal

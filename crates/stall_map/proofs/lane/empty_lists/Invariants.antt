@@ -1,6 +1,6 @@
 use Rattle.std.proofs.Common.{◌≡◌, length}
 use Rattle.std.specs.List.{All}
-use Rattle.stall_map.specs.Prepared.{IsWide}
+use Rattle.stall_map.specs.Prelude.{IsWide}
 use Rattle.stall_map.proofs.lane.empty_lists.Given as goal
 
 abbrev pub invariant-loop : goal.invariant-loop

@@ -1,8 +1,8 @@
 use Rattle.std.proofs.Common.{◌≡◌, ◌-◌, ◌<◌, false, length, sym, subst, ◌∙◌, arith}
 use Rattle.std.proofs.lemmas.List.{get_or_read}
-use Rattle.ruby_value.specs.NumberBefore.{number_before}
+use Rattle.ruby_value.specs.Prelude.{number_before}
 use Rattle.stall_map.specs.declared.stalled.Stalled.{Stalled}
-use Rattle.stall_map.specs.Stalls.{comes_before}
+use Rattle.stall_map.specs.Prelude.{comes_before}
 use Rattle.stall_map.proofs.Numbered.{place}
 use Rattle.stall_map.proofs.Placed.{placed}
 use Rattle.stall_map.proofs.order.place_of.Goals as goal

@@ -1,5 +1,5 @@
 use Rattle.std.proofs.Common.{◌≡◌, ◌<◌, ◌≤◌, ℕ, true, length, get_or}
-use Rattle.ruby_value.specs.NumberBefore.{number_before}
+use Rattle.ruby_value.specs.Prelude.{number_before}
 use Rattle.stall_map.specs.declared.stalled.Stalled.{Stalled}
 use Rattle.stall_map.proofs.order.place_of.Given as goal
 

@@ -3,17 +3,11 @@ use Rattle.std.proofs.Common.{rules, IfOk, refl, ◌≡◌, ◌≤◌, ◌++◌,
 use Rattle.slicc_ast.specs.declared.tree.statement.If.{out-If}
 use Rattle.slicc_ast.proofs.tree.statement.Stmt.TheLaws.{the_size}
 use Rattle.slicc_ast.specs.declared.tree.statement.Stmt.TheViews.{the_lemmas}
-use Rattle.slicc_plan.specs.declared.built_in.BuiltInType.TheVariants.{Bool as Boolean}
-use Rattle.slicc_plan.specs.Environment.{Environment, binding, fixed, meaning_named}
-use Rattle.slicc_plan.specs.ExpressionTypes.{broken_where, span_of, typed}
-use Rattle.slicc_plan.specs.JudgedStatements.{after, assigned, checked, declared, enqueued, if_judged, in_enqueue, in_peek, in_type, judged, out_type, peeked, returned, stalled, statements_judged}
-use Rattle.slicc_plan.specs.Meanings.{any_value, incoming_of_type, of_built_in, outgoing_of_type}
-use Rattle.slicc_plan.specs.Order.{earlier_of_both, first_of}
+use Rattle.slicc_plan.specs.declared.built_in.BuiltInType.TheVariants.{Bool}
+use Rattle.slicc_plan.specs.Prelude.{Environment, binding, fixed, meaning_named, broken_where, span_of, typed, after, assigned, checked, declared, enqueued, if_judged, in_enqueue, in_peek, in_type, judged, out_type, peeked, returned, stalled, statements_judged, any_value, incoming_of_type, of_built_in, outgoing_of_type, earlier_of_both, first_of}
 use Rattle.slicc_plan.proofs.Firsts.{first_of-append}
-use Rattle.body_types.specs.Environments.{environment_of}
-use Rattle.body_types.specs.Views.{meaning_of}
-use Rattle.statement_rules.specs.Bindings.{IsGrown, at}
-use Rattle.statement_rules.specs.Elses.{else_if_judged}
+use Rattle.body_types.specs.Prelude.{environment_of, meaning_of}
+use Rattle.statement_rules.specs.Prelude.{IsGrown, at, else_if_judged}
 use Rattle.statement_rules.proofs.Rows.{if_none, if_some, judged_enqueue, judged_peek, told_form}
 use Rattle.statement_rules.proofs.Steps.{block_names, grown_more, others_item, statements_item}
 use Rattle.statement_rules.proofs.judging.+statements.Goals as goal
@@ -29,7 +23,7 @@ if_judged-returns-in-None-clause-first t c =
     let names = c.args.bound.now.items in
     c.earlier_of_two-own.ensures ∙ ap (λ o. earlier_of_both o c.in_ok-others.others) c.earlier_of_two.ensures
     ∙ if_none (at c.args.env names) c.args.i.now c.in_ok-condition.condition c.in_ok-then.then c.in_ok-others.others c.in-None.is
-    (c.in_ok-condition.ensures ∙ ap (λ e. first_of (broken_where e (of_built_in Boolean) (out-If c.args.i.now).condition)) (c.with_names-here.ensures.is ∙ ap (λ xs. at c.args.env xs) c.as_slice.ensures.value))
+    (c.in_ok-condition.ensures ∙ ap (λ e. first_of (broken_where e (of_built_in Bool) (out-If c.args.i.now).condition)) (c.with_names-here.ensures.is ∙ ap (λ xs. at c.args.env xs) c.as_slice.ensures.value))
     c.in_ok-then.ensures.first
     (c.in_ok-others.ensures.first ∙ ap (λ es. first_of (flat_map (else_if_judged (at c.args.env c.arm_judged.new.bound.items)) es)) c.deref.ensures
     ∙ ap (λ xs. first_of (flat_map (else_if_judged (at c.args.env xs)) (out-If c.args.i.now).others)) c.in_ok-then.ensures.kept)
@@ -39,7 +33,7 @@ if_judged-returns-in_ok-otherwise-in-Some-clause-first t c =
     let names = c.args.bound.now.items in
     c.earlier_of_two-in-Some.ensures ∙ ap (λ o. earlier_of_both o c.in_ok-otherwise-in-Some.otherwise) (c.earlier_of_two-own.ensures ∙ ap (λ o. earlier_of_both o c.in_ok-others.others) c.earlier_of_two.ensures)
     ∙ if_some (at c.args.env names) c.args.i.now c.in-Some.block c.in_ok-condition.condition c.in_ok-then.then c.in_ok-others.others c.in_ok-otherwise-in-Some.otherwise c.in-Some.is
-    (c.in_ok-condition.ensures ∙ ap (λ e. first_of (broken_where e (of_built_in Boolean) (out-If c.args.i.now).condition)) (c.with_names-here.ensures.is ∙ ap (λ xs. at c.args.env xs) c.as_slice.ensures.value))
+    (c.in_ok-condition.ensures ∙ ap (λ e. first_of (broken_where e (of_built_in Bool) (out-If c.args.i.now).condition)) (c.with_names-here.ensures.is ∙ ap (λ xs. at c.args.env xs) c.as_slice.ensures.value))
     c.in_ok-then.ensures.first
     (c.in_ok-others.ensures.first ∙ ap (λ es. first_of (flat_map (else_if_judged (at c.args.env c.arm_judged.new.bound.items)) es)) c.deref.ensures
     ∙ ap (λ xs. first_of (flat_map (else_if_judged (at c.args.env xs)) (out-If c.args.i.now).others)) c.in_ok-then.ensures.kept)
@@ -80,7 +74,7 @@ others_judged-loop-other-preserved t c =
     record {
       found = c.earlier_of_two-first.ensures ∙ ap (λ o. earlier_of_both o c.in_ok-then.then) c.earlier_of_two.ensures
           ∙ others_item (at c.args.env c.args.bound.now.items) c.args.others.now c.loop-other.other-index c.other-item.result c.loop-other.first c.in_ok-condition.condition c.in_ok-then.then c.loop-other-test.true c.other-item.is
-          (c.in_ok-condition.ensures ∙ ap (λ e. first_of (broken_where e (of_built_in Boolean) c.other-item.result.condition)) (c.with_names-here.ensures.is ∙ ap (λ xs. at c.args.env xs) (c.as_slice.ensures.value ∙ kept)))
+          (c.in_ok-condition.ensures ∙ ap (λ e. first_of (broken_where e (of_built_in Bool) c.other-item.result.condition)) (c.with_names-here.ensures.is ∙ ap (λ xs. at c.args.env xs) (c.as_slice.ensures.value ∙ kept)))
           (c.in_ok-then.ensures.first ∙ ap (λ ss. first_of (statements_judged (at c.args.env c.loop-other.bound.items) ss)) c.deref.ensures
           ∙ ap (λ xs. first_of (statements_judged (at c.args.env xs) c.other-item.result.then.statements)) kept)
           c.loop-other.invariant.found;
@@ -146,7 +140,7 @@ judged-returns-in-Assert-clause-first t c =
     let env : Environment = at c.args.env c.args.bound.now.items in
     let here : environment_of c.with_names-here.result ≡ env = c.with_names-here.ensures.is ∙ ap (λ xs. at c.args.env xs) c.as_slice.ensures.value in
     let w = c.in-Assert in
-    told_form (λ e. broken_where e (of_built_in Boolean) w.condition) env (environment_of c.with_names-here.result) c.args.s.now _ c.broken_value.result c.broken_value.ensures here w.is refl
+    told_form (λ e. broken_where e (of_built_in Bool) w.condition) env (environment_of c.with_names-here.result) c.args.s.now _ c.broken_value.result c.broken_value.ensures here w.is refl
 
 pub judged-returns-in-If-clause-first : goal.judged-returns-in-If-clause-first
 judged-returns-in-If-clause-first t c =

@@ -1,8 +1,6 @@
 use Rattle.std.proofs.Common.{◌≡◌, drop, flat_map, take}
-use Rattle.slicc_plan.specs.JudgedStatements.{statements_judged}
-use Rattle.slicc_plan.specs.Order.{earlier_of_both, first_of}
-use Rattle.statement_rules.specs.Bindings.{IsGrown, at}
-use Rattle.statement_rules.specs.Elses.{else_if_judged}
+use Rattle.slicc_plan.specs.Prelude.{statements_judged, earlier_of_both, first_of}
+use Rattle.statement_rules.specs.Prelude.{IsGrown, at, else_if_judged}
 use Rattle.statement_rules.proofs.judging.+statements.Given as goal
 
 abbrev pub invariant-statements_judged-loop-s : goal.invariant-statements_judged-loop-s

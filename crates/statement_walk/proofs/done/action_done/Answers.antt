@@ -1,9 +1,6 @@
 use Rattle.std.proofs.Common.{Some, sym}
 use Rattle.std.proofs.lemmas.Result.{err_from_is_err_and}
-use Rattle.body_meaning.specs.Frames.{Ended}
-use Rattle.body_meaning.specs.Reading.{reading}
-use Rattle.body_meaning.specs.Actions.{body_of_action}
-use Rattle.body_meaning.specs.Transition.{about_left}
+use Rattle.body_meaning.specs.Prelude.{Ended, reading, body_of_action, about_left}
 use Rattle.statement_walk.proofs.BodyEnds.{body_ends, body_stops}
 use Rattle.statement_walk.proofs.done.action_done.Goals as goal
 

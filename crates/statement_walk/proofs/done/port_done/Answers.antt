@@ -1,8 +1,6 @@
 use Rattle.std.proofs.Common.{None, refl, slice_get, sym}
 use Rattle.std.proofs.lemmas.Result.{err_from_is_err_and}
-use Rattle.body_meaning.specs.Frames.{Ended}
-use Rattle.body_meaning.specs.Reading.{reading}
-use Rattle.body_meaning.specs.Scan.{port_block}
+use Rattle.body_meaning.specs.Prelude.{Ended, reading, port_block}
 use Rattle.statement_walk.proofs.BodyEnds.{body_ends, body_stops}
 use Rattle.statement_walk.proofs.done.port_done.Goals as goal
 

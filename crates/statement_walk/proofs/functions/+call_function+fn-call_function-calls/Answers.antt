@@ -1,7 +1,7 @@
 use Rattle.std.proofs.Common.{rules, arith, ◌≡◌, ◌+◌, ◌-◌}
 use Rattle.acts.proofs.Walk.{walk_steps}
-use Rattle.body_meaning.specs.Reading.{reading}
-use Rattle.body_walk.specs.CallsDo.{CallsDo}
+use Rattle.body_meaning.specs.Prelude.{reading}
+use Rattle.body_walk.specs.Prelude.{CallsDo}
 use Rattle.statement_walk.proofs.BodyCalls.{call_within, no_call_within}
 use Rattle.statement_walk.proofs.functions.+call_function+fn-call_function-calls.Goals as goal
 

@@ -1,4 +1,4 @@
-use Rattle.body_walk.specs.CallsDo.{CallsDo}
+use Rattle.body_walk.specs.Prelude.{CallsDo}
 use Rattle.statement_walk.proofs.functions.body_done.Goals as goal
 
 pub all_done-requires-clause-does : goal.all_done-requires-clause-does

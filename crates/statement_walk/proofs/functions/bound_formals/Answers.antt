@@ -1,7 +1,7 @@
 use Rattle.std.proofs.Common.{rules, ◌≡◌, ◌∙◌, ap, length, sym, vec_len}
 use Rattle.std.proofs.lemmas.Iterator.Adapters.{YieldsList-from_vec}
 use Rattle.std.proofs.lemmas.Iterator.Consumers.{YieldsList-end}
-use Rattle.body_meaning.specs.Bodies.{bound_formals}
+use Rattle.body_meaning.specs.Prelude.{bound_formals}
 use Rattle.statement_walk.proofs.BodyCalls.{bound-all, map-itself}
 use Rattle.statement_walk.proofs.functions.bound_formals.Goals as goal
 

@@ -1,7 +1,7 @@
 use Rattle.std.proofs.Common.{rules, ◌≡◌, ◌∙◌, sym, ap, flat_map}
 use Rattle.slicc_ast.specs.declared.tree.statement.Stmt.TheViews.{the_lemmas}
-use Rattle.body_meaning.specs.Actions.{block_checked, checked, names_table}
-use Rattle.statement_walk.specs.Spending.{else_if_checked, spent}
+use Rattle.body_meaning.specs.Prelude.{block_checked, checked, names_table}
+use Rattle.statement_walk.specs.Prelude.{else_if_checked, spent}
 use Rattle.statement_walk.proofs.Spends.{spent-if, stmt_rows}
 use Rattle.statement_walk.proofs.needs.+spending.Goals as goal
 

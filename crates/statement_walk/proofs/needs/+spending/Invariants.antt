@@ -1,7 +1,7 @@
 use Rattle.std.proofs.Common.{◌≡◌, take}
 use Rattle.std.specs.List.{flat_map}
-use Rattle.body_meaning.specs.Actions.{checked, names_table}
-use Rattle.statement_walk.specs.Spending.{else_if_checked, spent}
+use Rattle.body_meaning.specs.Prelude.{checked, names_table}
+use Rattle.statement_walk.specs.Prelude.{else_if_checked, spent}
 use Rattle.statement_walk.proofs.needs.+spending.Given as goal
 
 abbrev pub invariant-spend_block-loop-statement : goal.invariant-spend_block-loop-statement

@@ -1,6 +1,5 @@
 use Rattle.std.proofs.Common.{◌∙◌, sym, ap, flat_map, is_none}
-use Rattle.body_meaning.specs.Reading.{reading}
-use Rattle.body_meaning.specs.Actions.{block_checked, body_of_action, names_table}
+use Rattle.body_meaning.specs.Prelude.{reading, block_checked, body_of_action, names_table}
 use Rattle.statement_walk.proofs.Spends.{none_left}
 use Rattle.statement_walk.proofs.needs.need_more.Goals as goal
 

@@ -1,8 +1,7 @@
 use Rattle.std.proofs.Common.{◌≡◌, ℕ, take}
 use Rattle.std.specs.List.{flat_map}
-use Rattle.body_meaning.specs.Actions.{block_checked, body_of_action, names_table}
-use Rattle.body_meaning.specs.Reading.{reading}
-use Rattle.statement_walk.specs.Spending.{spent}
+use Rattle.body_meaning.specs.Prelude.{block_checked, body_of_action, names_table, reading}
+use Rattle.statement_walk.specs.Prelude.{spent}
 use Rattle.statement_walk.proofs.needs.spend_actions.Given as goal
 
 abbrev pub invariant-loop-number : goal.invariant-loop-number

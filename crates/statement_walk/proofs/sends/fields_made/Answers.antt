@@ -1,7 +1,6 @@
 use Rattle.std.proofs.Common.{◌≡◌, ◌+◌, ◌-◌, ◌∙◌, List, [], ◌∷◌, IfOk, length, sym, subst, arith}
 use Rattle.ruby_value.specs.declared.value.Value.{Value}
-use Rattle.body_meaning.specs.Frames.{outermost}
-use Rattle.body_meaning.specs.Statements.{fields_made}
+use Rattle.body_meaning.specs.Prelude.{outermost, fields_made}
 use Rattle.statement_walk.proofs.Made.{fields_of_name, fields_of_none}
 use Rattle.statement_walk.proofs.sends.fields_made.Goals as goal
 

@@ -3,11 +3,9 @@ use Rattle.std.proofs.Common.{Ok, Err, ℤ, rules, subst, w64}
 use Rattle.std.proofs.lemmas.Int.{to_z-of_z}
 use Rattle.std.proofs.lemmas.Result.{err_from_is_err_and}
 use Rattle.acts.specs.Act as act
-use Rattle.acts.specs.Acting.{act as done}
-use Rattle.acts.specs.DoesAs.{DoesAs, itself}
+use Rattle.acts.specs.Prelude.{act as done, DoesAs, itself}
 use Rattle.acts.proofs.Walk.{does_without_memory}
-use Rattle.body_meaning.specs.Bodies.{calls_within}
-use Rattle.body_meaning.specs.Reading.{reading}
+use Rattle.body_meaning.specs.Prelude.{calls_within, reading}
 use Rattle.statement_walk.proofs.Sending.{is_sent, no_latency, not_sent}
 use Rattle.statement_walk.proofs.sends.sent_on.Goals as goal
 

@@ -1,5 +1,5 @@
 use Rattle.std.proofs.Common.{◌≡◌, map, take}
-use Rattle.body_meaning.specs.Transition.{state_argument}
+use Rattle.body_meaning.specs.Prelude.{state_argument}
 use Rattle.statement_walk.proofs.states.arguments_for.Given as goal
 
 abbrev pub invariant-loop-argument : goal.invariant-loop-argument

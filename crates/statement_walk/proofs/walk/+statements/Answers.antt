@@ -7,20 +7,14 @@ use Rattle.slicc_ast.specs.declared.tree.statement.Stmt.{Stmt}
 use Rattle.ruby_value.specs.declared.message.Message.{Message}
 use Rattle.acts.specs.declared.body_fault.BodyFault.TheVariants as own
 use Rattle.acts.specs.Act as act
-use Rattle.acts.specs.Acting.{Acting, ◌>>=◌, act as done, found}
-use Rattle.acts.specs.DoesAs.{DoesAs, itself}
+use Rattle.acts.specs.Prelude.{Acting, ◌>>=◌, act as done, found, DoesAs, itself}
 use Rattle.acts.proofs.Walk.{does_ends_as, does_without_memory, then_does, then_stops}
 use Rattle.body_meaning.specs.declared.frame.Flow.{Flow}
 use Rattle.body_meaning.specs.declared.frame.Flow.TheVariants.{WentOn, Returned, Triggered}
 use Rattle.body_meaning.specs.declared.frame.Frame.{Frame}
 use Rattle.body_meaning.specs.declared.thing.Thing.TheVariants as thing
-use Rattle.body_meaning.specs.Bodies.{calls_within}
-use Rattle.body_meaning.specs.Calls.{Calls}
-use Rattle.body_meaning.specs.Frames.{Ended, bind, ended, leave}
-use Rattle.body_meaning.specs.Names.{message_of, port_named}
-use Rattle.body_meaning.specs.Reading.{Reading, reading}
-use Rattle.body_meaning.specs.Statements.{all_done, block_in, enqueued, exec, peeked, sent}
-use Rattle.statement_walk.specs.Parts.{otherwise_of, viewed}
+use Rattle.body_meaning.specs.Prelude.{calls_within, Calls, Ended, bind, ended, leave, message_of, port_named, Reading, reading, all_done, block_in, enqueued, exec, peeked, sent}
+use Rattle.statement_walk.specs.Prelude.{otherwise_of, viewed}
 use Rattle.statement_walk.proofs.Blocks.{scoped_ends, scoped_stops}
 use Rattle.statement_walk.proofs.Rows.{Doing, exec_of_Enqueue, exec_of_Peek, nothing_done}
 use Rattle.statement_walk.proofs.Steps.{all_ends, all_goes_on, all_returned, all_stops, all_triggered, arm_chosen, arm_passed, arm_stops, arms_end, if_first, if_second, if_stops}

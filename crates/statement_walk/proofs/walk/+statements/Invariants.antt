@@ -1,9 +1,7 @@
 use Rattle.std.proofs.Common.{drop}
 use Rattle.slicc_ast.specs.declared.tree.statement.If.{out-If}
-use Rattle.body_meaning.specs.Bodies.{calls_within}
-use Rattle.body_meaning.specs.Reading.{reading}
-use Rattle.body_meaning.specs.Statements.{all_done}
-use Rattle.statement_walk.specs.Parts.{others_of, otherwise_of}
+use Rattle.body_meaning.specs.Prelude.{calls_within, reading, all_done}
+use Rattle.statement_walk.specs.Prelude.{others_of, otherwise_of}
 use Rattle.statement_walk.proofs.Steps.{Leads}
 use Rattle.statement_walk.proofs.walk.+statements.Given as goal
 

@@ -1,7 +1,5 @@
 use Rattle.std.proofs.Common.{ℕ, List, [], ◌∷◌, codes, decimal, ap, subst, ◌∙◌}
-use Rattle.trace_print.specs.Adding.{IsAdded}
-use Rattle.trace_print.specs.Lines.{hexadecimal, spaced}
-use Rattle.trace_print.specs.Names.{controller_word}
+use Rattle.trace_print.specs.Prelude.{IsAdded, hexadecimal, spaced, controller_word}
 use Rattle.trace_print.proofs.ends.add_verdict.Goals as goal
 
 pub returns-in-Incoherent : goal.returns-in-Incoherent

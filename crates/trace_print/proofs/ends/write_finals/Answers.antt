@@ -1,5 +1,5 @@
 use Rattle.std.proofs.lemmas.List.{drop_more}
-use Rattle.trace_print.specs.Ends.{final_line}
+use Rattle.trace_print.specs.Prelude.{final_line}
 use Rattle.trace_print.proofs.Listing.{last_line, next_line, no_line}
 use Rattle.trace_print.proofs.ends.write_finals.Goals as goal
 

@@ -1,6 +1,5 @@
 use Rattle.std.proofs.Common.{Bool, drop, map}
-use Rattle.trace_print.specs.Ends.{final_line}
-use Rattle.trace_print.specs.Pieces.{AreLinesPut}
+use Rattle.trace_print.specs.Prelude.{final_line, AreLinesPut}
 use Rattle.trace_print.proofs.ends.write_finals.Given as goal
 
 abbrev pub invariant-loop-last : goal.invariant-loop-last

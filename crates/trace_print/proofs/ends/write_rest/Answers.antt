@@ -1,7 +1,6 @@
 use Rattle.std.proofs.Common.{[], ◌∷◌, map, true, false, refl, rules}
-use Rattle.slicc_plan.specs.SymbolsOf.{symbols_of}
-use Rattle.trace_print.specs.Ends.{account_line, final_line, rest_lines, verdict_line}
-use Rattle.trace_print.specs.Pieces.{AreLinesPut, IsLinePut, line_cut, line_put}
+use Rattle.slicc_plan.specs.Prelude.{symbols_of}
+use Rattle.trace_print.specs.Prelude.{account_line, final_line, rest_lines, verdict_line, AreLinesPut, IsLinePut, line_cut, line_put}
 use Rattle.trace_print.proofs.Listing.{lines_on, lines_stopped, one_line}
 use Rattle.trace_print.proofs.Written.{lines_written}
 use Rattle.trace_print.proofs.ends.write_rest.Goals as goal

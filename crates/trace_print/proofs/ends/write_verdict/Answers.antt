@@ -1,7 +1,5 @@
 use Rattle.std.proofs.Common.{[], ◌∷◌, ◌++◌, false, map, append_assoc, true, ◌∙◌}
-use Rattle.trace_print.specs.Ends.{verdict_words}
-use Rattle.trace_print.specs.Lines.{line_of, spaced}
-use Rattle.trace_print.specs.Words.{word_bytes}
+use Rattle.trace_print.specs.Prelude.{verdict_words, line_of, spaced, word_bytes}
 use Rattle.trace_print.proofs.Adding.{both_added, line_made, line_not_made, same_line}
 use Rattle.trace_print.proofs.LineParts.{line_in_parts}
 use Rattle.trace_print.proofs.ends.write_verdict.Goals as goal

@@ -1,4 +1,4 @@
-use Rattle.trace_print.specs.Pieces.{all_put}
+use Rattle.trace_print.specs.Prelude.{all_put}
 use Rattle.trace_print.proofs.Listing.{one_line}
 use Rattle.trace_print.proofs.entries.write_end.Goals as goal
 

@@ -1,7 +1,6 @@
 use Rattle.std.proofs.Common.{rules}
-use Rattle.slicc_plan.specs.SymbolsOf.{symbols_of}
-use Rattle.trace_print.specs.Entries.{entry_lines}
-use Rattle.trace_print.specs.Pieces.{all_put}
+use Rattle.slicc_plan.specs.Prelude.{symbols_of}
+use Rattle.trace_print.specs.Prelude.{entry_lines, all_put}
 use Rattle.trace_print.proofs.Listing.{one_line}
 use Rattle.trace_print.proofs.Written.{lines_written}
 use Rattle.trace_print.proofs.entries.write_entry.Goals as goal

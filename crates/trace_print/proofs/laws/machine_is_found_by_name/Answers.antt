@@ -1,6 +1,6 @@
 use Rattle.std.proofs.Common.{ap, ◌∙◌}
-use Rattle.ruby_symbols.specs.Names.{machine_named}
-use Rattle.trace_print.specs.Names.{machine_at}
+use Rattle.ruby_symbols.specs.Prelude.{machine_named}
+use Rattle.trace_print.specs.Prelude.{machine_at}
 use Rattle.trace_print.proofs.NameParts.{part_of_name}
 use Rattle.trace_print.proofs.laws.machine_is_found_by_name.Goals as goal
 

@@ -1,5 +1,5 @@
 use Rattle.std.proofs.Common.{ℕ, ◌+◌, Bool, List, ◌++◌, length}
-use Rattle.trace_print.specs.Pieces.{IsLinePut}
+use Rattle.trace_print.specs.Prelude.{IsLinePut}
 use Rattle.trace_print.proofs.line.add.Given as goal
 
 abbrev pub invariant-loop-left : goal.invariant-loop-left

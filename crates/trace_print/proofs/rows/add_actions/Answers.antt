@@ -1,7 +1,6 @@
 use Rattle.std.proofs.Common.{ℕ, List, subst, sym, ◌∙◌}
 use Rattle.std.specs.Option.{option_copied}
-use Rattle.trace_print.specs.Adding.{IsAdded}
-use Rattle.trace_print.specs.Lines.{spaced}
+use Rattle.trace_print.specs.Prelude.{IsAdded, spaced}
 use Rattle.trace_print.proofs.RowParts.{some_actions}
 use Rattle.trace_print.proofs.rows.add_actions.Goals as goal
 

@@ -1,6 +1,6 @@
 use Rattle.std.proofs.lemmas.List.{drop_more}
 use Rattle.std.specs.Option.{option_copied}
-use Rattle.trace_print.specs.Names.{action_word}
+use Rattle.trace_print.specs.Prelude.{action_word}
 use Rattle.trace_print.proofs.Adding.{no_word, word_cut, word_on}
 use Rattle.trace_print.proofs.rows.add_each.Goals as goal
 

@@ -1,8 +1,6 @@
 use Rattle.std.proofs.Common.{ℕ, Bool, List, ◌++◌, drop, map}
 use Rattle.std.specs.Option.{option_copied}
-use Rattle.trace_print.specs.Lines.{spaced}
-use Rattle.trace_print.specs.Names.{action_word}
-use Rattle.trace_print.specs.Pieces.{IsLinePut}
+use Rattle.trace_print.specs.Prelude.{spaced, action_word, IsLinePut}
 use Rattle.trace_print.proofs.rows.add_each.Given as goal
 
 abbrev pub invariant-loop-action : goal.invariant-loop-action

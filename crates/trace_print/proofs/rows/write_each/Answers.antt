@@ -1,7 +1,7 @@
 use Rattle.std.proofs.Common.{◌+◌, ◌∷◌, ap, drop, sym, ◌∙◌}
 use Rattle.std.proofs.lemmas.List.{drop_more}
 use Rattle.std.specs.Option.{option_copied}
-use Rattle.trace_print.specs.Rows.{row_line}
+use Rattle.trace_print.specs.Prelude.{row_line}
 use Rattle.trace_print.proofs.Listing.{last_line, next_line, no_line}
 use Rattle.trace_print.proofs.rows.write_each.Goals as goal
 

@@ -1,7 +1,6 @@
 use Rattle.std.proofs.Common.{Bool, drop, map}
 use Rattle.std.specs.Option.{option_copied}
-use Rattle.trace_print.specs.Pieces.{AreLinesPut}
-use Rattle.trace_print.specs.Rows.{row_line}
+use Rattle.trace_print.specs.Prelude.{AreLinesPut, row_line}
 use Rattle.trace_print.proofs.rows.write_each.Given as goal
 
 abbrev pub invariant-loop-row : goal.invariant-loop-row

@@ -1,8 +1,6 @@
 use Rattle.std.proofs.Common.{[], ◌∷◌, ◌++◌, true, false, ap, refl, append_assoc, ◌∙◌}
 use Rattle.std.specs.Option.{option_copied}
-use Rattle.trace_print.specs.Lines.{spaced}
-use Rattle.trace_print.specs.Names.{event_word, machine_word, state_word}
-use Rattle.trace_print.specs.Rows.{action_words, row_line}
+use Rattle.trace_print.specs.Prelude.{spaced, event_word, machine_word, state_word, action_words, row_line}
 use Rattle.trace_print.proofs.Adding.{both_added, line_made, line_not_made, same_line}
 use Rattle.trace_print.proofs.RowParts.{in_two_parts}
 use Rattle.trace_print.proofs.rows.write_row.Goals as goal

@@ -1,6 +1,6 @@
 use Rattle.std.proofs.Common.{rules}
-use Rattle.slicc_plan.specs.SymbolsOf.{symbols_of}
-use Rattle.trace_print.specs.Rows.{row_lines}
+use Rattle.slicc_plan.specs.Prelude.{symbols_of}
+use Rattle.trace_print.specs.Prelude.{row_lines}
 use Rattle.trace_print.proofs.Written.{lines_written}
 use Rattle.trace_print.proofs.rows.write_rows.Goals as goal
 

@@ -1,7 +1,7 @@
 use Rattle.std.proofs.Common.{◌≡◌, ◌++◌, flat_map, take}
-use Rattle.slicc_plan.specs.SymbolsOfTypes.{field_symbol}
-use Rattle.declared_types.specs.Lent.{scope_of}
-use Rattle.type_numbers.specs.Numbered.{trees_of}
+use Rattle.slicc_plan.specs.Prelude.{field_symbol}
+use Rattle.declared_types.specs.Prelude.{scope_of}
+use Rattle.type_numbers.specs.Prelude.{trees_of}
 use Rattle.type_numbers.proofs.fields.add_fields.Given as goal
 
 abbrev pub invariant-loop-member : goal.invariant-loop-member

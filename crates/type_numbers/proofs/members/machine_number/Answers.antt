@@ -1,7 +1,6 @@
 use Rattle.std.proofs.Common.{Bor, List, ap, map, ◌∙◌}
 use Rattle.slicc_ast.specs.declared.tree.machine.Machine.{Machine}
-use Rattle.slicc_plan.specs.Declarations.{everywhere}
-use Rattle.slicc_plan.specs.TypeNumbers.{member_number}
+use Rattle.slicc_plan.specs.Prelude.{everywhere, member_number}
 use Rattle.type_numbers.proofs.Lists.{machine_texts}
 use Rattle.type_numbers.proofs.members.machine_number.Goals as goal
 

@@ -1,6 +1,6 @@
 use Rattle.std.proofs.Common.{sym, ◌∙◌}
-use Rattle.slicc_plan.specs.TypeNumbers.{is_default_of}
-use Rattle.declared_types.specs.Lent.{scope_of}
+use Rattle.slicc_plan.specs.Prelude.{is_default_of}
+use Rattle.declared_types.specs.Prelude.{scope_of}
 use Rattle.type_numbers.proofs.Lists.{position_map}
 use Rattle.type_numbers.proofs.members.member_number.Goals as goal
 

@@ -1,8 +1,8 @@
 use Rattle.std.proofs.Common.{ap, sym, ◌∙◌}
-use Rattle.slicc_plan.specs.InitialFields.{member_written}
+use Rattle.slicc_plan.specs.Prelude.{member_written}
 use Rattle.declared_types.specs.declared.lent.KnownType.{KnownType}
-use Rattle.declared_types.specs.Lent.{type_of}
-use Rattle.type_numbers.specs.Numbered.{trees_of}
+use Rattle.declared_types.specs.Prelude.{type_of}
+use Rattle.type_numbers.specs.Prelude.{trees_of}
 use Rattle.type_numbers.proofs.members.member_written.Goals as goal
 
 pub returns-in-Enumeration : goal.returns-in-Enumeration

@@ -1,7 +1,7 @@
 use Rattle.std.proofs.Common.{◌≡◌, ◌++◌, filter, flat_map, map, take}
-use Rattle.slicc_plan.specs.TypeNumbers.{made_with_its_own}
-use Rattle.declared_types.specs.Lent.{declarations_of}
-use Rattle.type_numbers.specs.Numbered.{has_sort, scoped_of}
+use Rattle.slicc_plan.specs.Prelude.{made_with_its_own}
+use Rattle.declared_types.specs.Prelude.{declarations_of}
+use Rattle.type_numbers.specs.Prelude.{has_sort, scoped_of}
 use Rattle.type_numbers.proofs.numbering.add_all.Given as goal
 
 abbrev pub invariant-loop-d : goal.invariant-loop-d

@@ -1,7 +1,6 @@
 use Rattle.std.proofs.Common.{◌≡◌, ◌++◌, filter, flat_map, map, take}
-use Rattle.slicc_plan.specs.Declarations.{named_declarations, within}
-use Rattle.slicc_plan.specs.TypeNumbers.{made_in}
-use Rattle.type_numbers.specs.Numbered.{has_sort, scoped_of}
+use Rattle.slicc_plan.specs.Prelude.{named_declarations, within, made_in}
+use Rattle.type_numbers.specs.Prelude.{has_sort, scoped_of}
 use Rattle.type_numbers.proofs.numbering.add_all_named.Given as goal
 
 abbrev pub invariant-loop-d : goal.invariant-loop-d

@@ -1,8 +1,7 @@
 use Rattle.std.proofs.Common.{◌≡◌, ◌++◌, List, OnOk, ap, filter, flat_map, map, subst, sym, ◌∙◌}
 use Rattle.slicc_ast.specs.declared.tree.machine.Decl.{Decl}
-use Rattle.slicc_plan.specs.Declarations.{named_declarations, within}
-use Rattle.slicc_plan.specs.TypeNumbers.{ScopedDeclaration, made_in}
-use Rattle.type_numbers.specs.Numbered.{has_sort, scoped_of}
+use Rattle.slicc_plan.specs.Prelude.{named_declarations, within, ScopedDeclaration, made_in}
+use Rattle.type_numbers.specs.Prelude.{has_sort, scoped_of}
 use Rattle.type_numbers.proofs.Lists.{machine_types}
 use Rattle.type_numbers.proofs.numbering.add_machine.Goals as goal
 

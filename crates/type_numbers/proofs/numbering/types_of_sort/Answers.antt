@@ -1,8 +1,7 @@
 use Rattle.std.proofs.Common.{ap, filter, flat_map, map, sym, ◌∙◌}
-use Rattle.slicc_plan.specs.Declarations.{Declaration, global_declarations}
-use Rattle.slicc_plan.specs.TypeNumbers.{made_with_its_own}
-use Rattle.declared_types.specs.Lent.{declarations_of}
-use Rattle.type_numbers.specs.Numbered.{has_sort, scoped_of}
+use Rattle.slicc_plan.specs.Prelude.{Declaration, global_declarations, made_with_its_own}
+use Rattle.declared_types.specs.Prelude.{declarations_of}
+use Rattle.type_numbers.specs.Prelude.{has_sort, scoped_of}
 use Rattle.type_numbers.proofs.Lists.{filter_flat_map, from_nothing}
 use Rattle.type_numbers.proofs.numbering.types_of_sort.Goals as goal
 

@@ -1,8 +1,8 @@
 use Rattle.std.proofs.Common.{sym, ◌∙◌}
-use Rattle.slicc_plan.specs.TypeNumbers.{declares}
-use Rattle.declared_types.specs.Lent.{type_of}
+use Rattle.slicc_plan.specs.Prelude.{declares}
+use Rattle.declared_types.specs.Prelude.{type_of}
 use Rattle.type_numbers.specs.declared.numbering.Scoped.{Scoped}
-use Rattle.type_numbers.specs.Numbered.{scoped_of}
+use Rattle.type_numbers.specs.Prelude.{scoped_of}
 use Rattle.type_numbers.proofs.Lists.{position_map, position_within}
 use Rattle.type_numbers.proofs.numbers.place_among.Goals as goal
 

@@ -1,5 +1,5 @@
 use Rattle.std.proofs.Common.{List, refl, subst}
-use Rattle.world_events.specs.Accounted.{AreCountsOf, mail_in}
+use Rattle.world_events.specs.Prelude.{AreCountsOf, mail_in}
 use Rattle.world_events.proofs.Counted.{account-held}
 use Rattle.world_state.specs.declared.place.Place.{Place}
 use Rattle.world_events.proofs.accounting.account.Goals as goal

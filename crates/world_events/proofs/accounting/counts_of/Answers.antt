@@ -1,8 +1,8 @@
 use Rattle.std.proofs.Common.{List, ap, arith, subst, take}
 use Rattle.std.proofs.lemmas.List.{take_all}
-use Rattle.protocol_runs.specs.RunRules.{Mailed}
+use Rattle.protocol_runs.specs.Prelude.{Mailed}
 use Rattle.world_state.specs.declared.place.Place.{Place}
-use Rattle.world_events.specs.Accounted.{AreCountsOf, mail_in}
+use Rattle.world_events.specs.Prelude.{AreCountsOf, mail_in}
 use Rattle.world_events.proofs.Counted.{mail-more}
 use Rattle.world_events.proofs.accounting.counts_of.Goals as goal
 

@@ -1,5 +1,5 @@
 use Rattle.std.proofs.Common.{take}
-use Rattle.world_events.specs.Accounted.{AreCountsOf, mail_in}
+use Rattle.world_events.specs.Prelude.{AreCountsOf, mail_in}
 use Rattle.world_events.proofs.accounting.counts_of.Given as goal
 
 abbrev pub invariant-loop-place : goal.invariant-loop-place

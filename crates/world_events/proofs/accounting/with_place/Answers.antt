@@ -1,10 +1,10 @@
 use Rattle.std.proofs.Common.{◌+◌, ◌++◌, ◌∙◌, ℕ, List, ap, subst, sym}
 use Rattle.std.specs.Prelude.{count_by}
-use Rattle.ctl_face.specs.Ctl.{InboxMessage}
-use Rattle.ctl_mail.specs.Census.{is_queued, is_recycled}
-use Rattle.ctl_store.specs.Kept.{ctl_of}
+use Rattle.ctl_face.specs.Prelude.{InboxMessage}
+use Rattle.ctl_mail.specs.Prelude.{is_queued, is_recycled}
+use Rattle.ctl_store.specs.Prelude.{ctl_of}
 use Rattle.world_state.specs.declared.place.Keeper.{Keeper}
-use Rattle.world_events.specs.Accounted.{AreCountsOf, mail_by}
+use Rattle.world_events.specs.Prelude.{AreCountsOf, mail_by}
 use Rattle.world_events.specs.declared.accounting.Counts.{Counts}
 use Rattle.world_events.proofs.Counted.{counts-more, counts-still}
 use Rattle.world_events.proofs.accounting.with_place.Goals as goal

@@ -1,7 +1,7 @@
 use Rattle.std.proofs.Common.{◌≡◌, ◌∷◌, ◌++◌, ◌∙◌, ◌+◌, [], List, Some, ap, arith, length, slice_get, subst, sym}
 use Rattle.std.proofs.lemmas.List.{length-append}
 use Rattle.world_state.specs.declared.place.Kept.{Kept}
-use Rattle.world_events.specs.Opening.{IsOpenedFor}
+use Rattle.world_events.specs.Prelude.{IsOpenedFor}
 use Rattle.world_events.proofs.Openings.{few-controllers, names-are, one-more}
 use Rattle.world_events.proofs.opening.all_kept.Goals as goal
 

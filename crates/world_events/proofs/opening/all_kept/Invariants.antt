@@ -1,6 +1,6 @@
 use Rattle.std.proofs.Common.{◌≡◌, ℕ, Some, length, slice_get}
 use Rattle.world_state.specs.declared.place.Kept.{Kept}
-use Rattle.world_events.specs.Opening.{IsOpenedFor}
+use Rattle.world_events.specs.Prelude.{IsOpenedFor}
 use Rattle.world_events.proofs.opening.all_kept.Given as goal
 
 -- those with smaller numbers are there

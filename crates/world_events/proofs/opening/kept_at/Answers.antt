@@ -1,11 +1,11 @@
 use Rattle.std.proofs.Common.{◌≡◌, Option, Some, ap, arith, is_some, subst, sym, ◌∙◌}
 use Rattle.std.proofs.lemmas.Option.{slice_get_within}
-use Rattle.std.proofs.lemmas.Option.{same_Some as equal_Some}
+use Rattle.std.proofs.lemmas.Option.{same_Some}
 use Rattle.ruby_value.specs.declared.setup.Sizes.{Sizes}
 use Rattle.slicc_ast.specs.declared.tree.machine.Machine.{Machine}
-use Rattle.slicc_plan.specs.Setups.{AreSizesOf}
-use Rattle.ctl_store.specs.Kept.{machine_of}
-use Rattle.world_events.specs.Opening.{IsOpenedFor}
+use Rattle.slicc_plan.specs.Prelude.{AreSizesOf}
+use Rattle.ctl_store.specs.Prelude.{machine_of}
+use Rattle.world_events.specs.Prelude.{IsOpenedFor}
 use Rattle.world_events.proofs.Openings.{few-controllers, few-counts, machine-there-is, setup-at, there}
 use Rattle.world_events.proofs.opening.kept_at.Goals as goal
 
@@ -39,7 +39,7 @@ pub new-requires-clause-sizes : goal.new-requires-clause-sizes
 new-requires-clause-sizes c =
     let found = rw c.as_slice.ensures at c.machine_of-machine.ensures in
     let is = there c.args.plan.now c.args.topology.now c.requires.fits c.args.c c.machine_of-machine.result found in
-    let same : is.own ≡ c.index.result.now = equal_Some is.own c.index.result.now (sym is.is_own ∙ c.index.ensures) in
+    let same : is.own ≡ c.index.result.now = same_Some is.own c.index.result.now (sym is.is_own ∙ c.index.ensures) in
     subst (AreSizesOf c.args.plan.now) same is.room
 
 pub returns : goal.returns

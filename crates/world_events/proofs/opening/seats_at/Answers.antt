@@ -1,8 +1,8 @@
 use Rattle.std.proofs.Common.{◌<◌, All, IsSome, List, arith, false, length, subst, sym}
 use Rattle.std.proofs.lemmas.List.Elements.{All-get_or}
-use Rattle.protocol_runs.specs.Machines.{machine_of}
+use Rattle.protocol_runs.specs.Prelude.{machine_of}
 use Rattle.ruby_topology.specs.declared.topology.Seat.{Seat}
-use Rattle.protocol_meaning.specs.Setups.{ranges_of}
+use Rattle.protocol_meaning.specs.Prelude.{ranges_of}
 use Rattle.world_events.proofs.Openings.{seats-there}
 use Rattle.world_events.proofs.opening.seats_at.Goals as goal
 

@@ -1,8 +1,7 @@
 use Rattle.std.proofs.Common.{◌≡◌, map, take}
-use Rattle.slicc_plan.specs.SymbolsOf.{symbols_of}
-use Rattle.protocol_meaning.specs.Seats.{seat_setup}
-use Rattle.protocol_meaning.specs.Setups.{ranges_of}
-use Rattle.world_state.specs.Seated.{setups_in}
+use Rattle.slicc_plan.specs.Prelude.{symbols_of}
+use Rattle.protocol_meaning.specs.Prelude.{seat_setup, ranges_of}
+use Rattle.world_state.specs.Prelude.{setups_in}
 use Rattle.world_events.proofs.opening.seats_at.Given as goal
 
 abbrev pub invariant-loop-seat : goal.invariant-loop-seat

@@ -1,5 +1,5 @@
 use Rattle.std.proofs.Common.{◌≡◌, ◌+◌, ◌∷◌, ◌∙◌, arith, reverse, vec_len}
-use Rattle.world_state.specs.Places.{places_with}
+use Rattle.world_state.specs.Prelude.{places_with}
 use Rattle.world_state.proofs.AllSeats.{newest, put-more}
 use Rattle.world_state.proofs.all_seats.put_all.Goals as goal
 

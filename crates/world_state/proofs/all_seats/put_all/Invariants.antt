@@ -1,10 +1,8 @@
 use Rattle.std.proofs.Common.{◌≡◌, ◌+◌, ℕ, drop, length, reverse, vec_len}
 use Rattle.std.specs.List.{All}
-use Rattle.ctl_face.specs.Ctl.{Ctl}
-use Rattle.sequencer.specs.OwnedSeats.{seats_of}
-use Rattle.world_state.specs.Arrivals.{HasRoom}
-use Rattle.world_state.specs.Places.{made_in, places_with}
-use Rattle.world_state.specs.Seated.{seated}
+use Rattle.ctl_face.specs.Prelude.{Ctl}
+use Rattle.sequencer.specs.Prelude.{seats_of}
+use Rattle.world_state.specs.Prelude.{HasRoom, made_in, places_with, seated}
 use Rattle.world_state.proofs.all_seats.put_all.Given as goal
 
 -- the seats before this one have theirs, and those from it on get what is left

@@ -2,12 +2,11 @@ use Rattle.std.proofs.Common.{◌≡◌, ◌≤◌, ◌<◌, ◌+◌, ◌∙◌,
 use Rattle.std.proofs.lemmas.Option.{slice_get-get_or}
 use Rattle.std.proofs.lemmas.List.{take_all}
 use Rattle.protocol_runs.specs.World as runs
-use Rattle.ctl_face.specs.Ctl.{Ctl}
-use Rattle.sequencer.specs.OwnedSeats.{seats_of}
-use Rattle.protocol_runs.specs.Turn.{seats_in}
+use Rattle.ctl_face.specs.Prelude.{Ctl}
+use Rattle.sequencer.specs.Prelude.{seats_of}
+use Rattle.protocol_runs.specs.Prelude.{seats_in}
 use Rattle.world_state.specs.declared.seat.SeatAt.{SeatAt}
-use Rattle.world_state.specs.Seated.{controllers_in, seated, setups_in}
-use Rattle.world_state.specs.Places.{places_with}
+use Rattle.world_state.specs.Prelude.{controllers_in, seated, setups_in, places_with}
 use Rattle.world_state.proofs.AllSeats.{later-more, out-more}
 use Rattle.world_state.proofs.Seats.{after-taking}
 use Rattle.world_state.proofs.all_seats.take_seats.Goals as goal

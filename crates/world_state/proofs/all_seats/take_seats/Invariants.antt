@@ -1,11 +1,9 @@
 use Rattle.std.proofs.Common.{◌≡◌, ◌+◌, ◌≤◌, ℕ, List, Some, length, slice_get, take, vec_capacity, vec_len}
-use Rattle.ctl_face.specs.Ctl.{Ctl}
-use Rattle.protocol_runs.specs.Turn.{seats_in}
-use Rattle.sequencer.specs.OwnedSeats.{seats_of}
-use Rattle.sequencer.specs.Seats.{Seat}
-use Rattle.world_state.specs.Places.{made_in, places_with}
+use Rattle.ctl_face.specs.Prelude.{Ctl}
+use Rattle.protocol_runs.specs.Prelude.{seats_in}
+use Rattle.sequencer.specs.Prelude.{seats_of, Seat}
+use Rattle.world_state.specs.Prelude.{made_in, places_with, controllers_in, seated, setups_in}
 use Rattle.world_state.specs.declared.seat.SeatAt.{SeatAt}
-use Rattle.world_state.specs.Seated.{controllers_in, seated, setups_in}
 use Rattle.world_state.proofs.all_seats.take_seats.Given as goal
 
 -- the sequencers of the seats before this one are out, and those of the others are as they were

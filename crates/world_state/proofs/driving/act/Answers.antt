@@ -3,13 +3,10 @@ use Rattle.std.proofs.lemmas.List.{length-map}
 use Rattle.ruby_value.specs.declared.message.Delivery.{Delivery}
 use Rattle.ruby_value.specs.declared.message.Message.{Message}
 use Rattle.ruby_value.specs.declared.message.MsgNo.{MsgNo}
-use Rattle.ctl_face.specs.Ctl.{Ctl}
+use Rattle.ctl_face.specs.Prelude.{Ctl}
 use Rattle.protocol_runs.specs.World as runs
-use Rattle.sequencer.specs.Drive.{Drive, after_drive}
-use Rattle.world_state.specs.Arrivals.{delivered}
-use Rattle.world_state.specs.Places.{places_with}
-use Rattle.world_state.specs.Seated.{seated, setups_in}
-use Rattle.world_state.specs.Turned.{numbers_of, requests_in}
+use Rattle.sequencer.specs.Prelude.{Drive, after_drive}
+use Rattle.world_state.specs.Prelude.{delivered, places_with, seated, setups_in, numbers_of, requests_in}
 use Rattle.world_state.proofs.Asking.{few-messages}
 use Rattle.world_state.proofs.Driven.{room-fewer}
 use Rattle.world_state.proofs.driving.act.Goals as goal

@@ -1,9 +1,8 @@
 use Rattle.std.proofs.Common.{◌∙◌, List, ap, arith, subst, sym}
 use Rattle.ruby_value.specs.declared.message.Delivery.{Delivery}
 use Rattle.ruby_value.specs.declared.message.Message.{Message}
-use Rattle.sequencer.specs.Drive.{Drive}
-use Rattle.world_state.specs.Arrivals.{CanArrive}
-use Rattle.world_state.specs.Turned.{numbers_of}
+use Rattle.sequencer.specs.Prelude.{Drive}
+use Rattle.world_state.specs.Prelude.{CanArrive, numbers_of}
 use Rattle.world_state.proofs.Driven.{act-is, can-end, is-driven, may-act, requests-same, seated-same}
 use Rattle.world_state.proofs.driving.drive.Goals as goal
 

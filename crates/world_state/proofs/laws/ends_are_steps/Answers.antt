@@ -1,7 +1,6 @@
 use Rattle.std.proofs.Common.{true, sym, subst}
 use Rattle.run_journal.specs.declared.event.Event.TheVariants.{Done}
-use Rattle.world_state.specs.Places.{Made}
-use Rattle.world_state.specs.States.{IsMadeFor}
+use Rattle.world_state.specs.Prelude.{Made, IsMadeFor}
 use Rattle.world_state.proofs.Stepping.{back-alone, back-kept, finish-steps}
 use Rattle.world_state.proofs.laws.ends_are_steps.Goals as goal
 

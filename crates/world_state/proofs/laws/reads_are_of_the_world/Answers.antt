@@ -1,5 +1,5 @@
 use Rattle.world_state.proofs.Readings.{any-held, first-free, none-held, none-passes}
-use Rattle.world_state.specs.Places.{is_free}
+use Rattle.world_state.specs.Prelude.{is_free}
 use Rattle.world_state.proofs.laws.reads_are_of_the_world.Goals as goal
 
 pub returns-clause-free : goal.returns-clause-free

@@ -1,4 +1,4 @@
-use Rattle.ctl_store.specs.Kept.{ctl_of}
+use Rattle.ctl_store.specs.Prelude.{ctl_of}
 use Rattle.run_journal.specs.declared.event.Event.TheVariants.{Release}
 use Rattle.world_state.proofs.Stepping.{back-alone, back-kept, put-back, release-steps}
 use Rattle.world_state.proofs.laws.releases_are_steps.Goals as goal

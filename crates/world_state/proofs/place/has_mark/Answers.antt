@@ -1,4 +1,4 @@
-use Rattle.ctl_store.specs.Kept.{ctl_of}
+use Rattle.ctl_store.specs.Prelude.{ctl_of}
 use Rattle.world_state.proofs.Marks.{marked-none, marked-some}
 use Rattle.world_state.proofs.place.has_mark.Goals as goal
 

@@ -1,6 +1,6 @@
 use Rattle.std.proofs.Common.{◌≡◌, drop}
 use Rattle.std.specs.List.{position_from}
-use Rattle.world_state.specs.Places.{is_free}
+use Rattle.world_state.specs.Prelude.{is_free}
 use Rattle.world_state.proofs.reads.first_free.Given as goal
 
 abbrev pub invariant-loop-c : goal.invariant-loop-c

@@ -1,6 +1,6 @@
 use Rattle.std.proofs.Common.{◌≡◌, drop}
 use Rattle.std.specs.List.{position_from}
-use Rattle.world_state.specs.Cycle.{has_stopped}
+use Rattle.world_state.specs.Prelude.{has_stopped}
 use Rattle.world_state.proofs.reads.least_stopped.Given as goal
 
 abbrev pub invariant-loop-c : goal.invariant-loop-c

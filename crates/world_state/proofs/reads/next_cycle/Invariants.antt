@@ -1,5 +1,5 @@
 use Rattle.std.proofs.Common.{◌≡◌, drop}
-use Rattle.world_state.specs.Cycle.{next_of}
+use Rattle.world_state.specs.Prelude.{next_of}
 use Rattle.world_state.proofs.reads.next_cycle.Given as goal
 
 abbrev pub invariant-loop-i : goal.invariant-loop-i

@@ -1,6 +1,6 @@
 use Rattle.std.proofs.Common.{◌≡◌, length}
 use Rattle.std.specs.List.{All}
-use Rattle.world_state.specs.Requests.{IsFieldRoom}
+use Rattle.world_state.specs.Prelude.{IsFieldRoom}
 use Rattle.world_state.proofs.requests.empty_fields.Given as goal
 
 abbrev pub invariant-loop : goal.invariant-loop

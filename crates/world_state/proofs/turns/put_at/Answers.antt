@@ -1,4 +1,4 @@
-use Rattle.ctl_store.specs.Kept.{requests_of}
+use Rattle.ctl_store.specs.Prelude.{requests_of}
 use Rattle.world_state.proofs.Swapped.{swapped-made, swapped-places, swapped-room}
 use Rattle.world_state.proofs.turns.put_at.Goals as goal
 

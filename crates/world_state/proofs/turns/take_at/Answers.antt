@@ -1,5 +1,5 @@
 use Rattle.std.proofs.Common.{None}
-use Rattle.ctl_store.specs.Kept.{requests_of}
+use Rattle.ctl_store.specs.Prelude.{requests_of}
 use Rattle.world_state.proofs.Swapped.{shown, swapped-made, swapped-places}
 use Rattle.world_state.proofs.turns.take_at.Goals as goal
 

@@ -1,8 +1,6 @@
 use Rattle.std.proofs.Common.{◌≡◌, ◌<◌, ◌++◌, ◌∷◌, [], List, length, false, true, is_some, nat_lt, sym, arith}
 use Rattle.std.proofs.lemmas.Bool.{lt-ltb}
-use Rattle.ruby_value.specs.Cache.{Line}
-use Rattle.ruby_value.specs.FieldsOf.{fields_of}
-use Rattle.ruby_value.specs.SetOf.{set_of}
+use Rattle.ruby_value.specs.Prelude.{Line, fields_of, set_of}
 use Rattle.ruby_value.proofs.CacheEdits.{IsRead, of_set, cache_push}
 use Rattle.cache_array.proofs.Sets.{cache_with, is_read, here_of, holds_with, put}
 use Rattle.cache_array.proofs.cache.CacheArray.allocate.Goals as goal

@@ -1,7 +1,5 @@
 use Rattle.std.proofs.Common.{◌≡◌, List, None, Some, sym}
-use Rattle.ruby_value.specs.Cache.{Line}
-use Rattle.ruby_value.specs.FieldsOf.{fields_of}
-use Rattle.ruby_value.specs.WithoutLine.{without_line}
+use Rattle.ruby_value.specs.Prelude.{Line, fields_of, without_line}
 use Rattle.ruby_value.proofs.CacheEdits.{IsRead, of_set, cache_without}
 use Rattle.cache_array.proofs.Sets.{cache_with, is_read, here_of, holds_with, holds_same, put, put_same}
 use Rattle.cache_array.proofs.cache.CacheArray.deallocate.Goals as goal

@@ -1,8 +1,7 @@
 use Rattle.std.proofs.Common.{ℕ, List, sym, subst, ◌∙◌, arith}
-use Rattle.ruby_value.specs.Cache.{Line}
-use Rattle.ruby_value.specs.IsCache.{IsCache}
+use Rattle.ruby_value.specs.Prelude.{Line, IsCache}
 use Rattle.ruby_value.proofs.CacheEdits.{empty_cache}
-use Rattle.cache_array.specs.Holds.{IsMask}
+use Rattle.cache_array.specs.Prelude.{IsMask}
 use Rattle.cache_array.proofs.cache.CacheArray.new.Goals as goal
 
 pub invariant_of-result : goal.invariant_of-result

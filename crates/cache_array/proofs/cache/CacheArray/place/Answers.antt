@@ -1,6 +1,6 @@
 use Rattle.std.proofs.Common.{ℕ, ◌%◌, Option, length, sym, ap, subst, ◌∙◌}
 use Rattle.std.proofs.lemmas.List.{length-map}
-use Rattle.cache_array.specs.Holds.{IsMask}
+use Rattle.cache_array.specs.Prelude.{IsMask}
 use Rattle.cache_array.proofs.Sets.{Order, masked}
 use Rattle.cache_array.proofs.cache.CacheArray.place.Goals as goal
 

@@ -1,6 +1,5 @@
 use Rattle.std.proofs.Common.{◌↔◌, List, IsOk, IsSome, slice_set}
-use Rattle.ruby_value.specs.Cache.{Line}
-use Rattle.ruby_value.specs.FieldsOf.{fields_of}
+use Rattle.ruby_value.specs.Prelude.{Line, fields_of}
 use Rattle.ruby_value.proofs.CacheEdits.{IsRead, of_set}
 use Rattle.cache_array.proofs.Sets.{cache_with, is_read, here_of, holds_field, put_field, put_refused}
 use Rattle.cache_array.proofs.cache.CacheArray.set_field.Goals as goal

@@ -1,7 +1,5 @@
 use Rattle.std.proofs.Common.{◌≡◌, List, IsTrue, false, is_some, refl, sym}
-use Rattle.ruby_value.specs.Cache.{Line}
-use Rattle.ruby_value.specs.FieldsOf.{fields_of}
-use Rattle.ruby_value.specs.MadeRecent.{made_recent}
+use Rattle.ruby_value.specs.Prelude.{Line, fields_of, made_recent}
 use Rattle.ruby_value.proofs.CacheEdits.{IsRead, of_set, cache_recent}
 use Rattle.cache_array.proofs.Sets.{cache_with, is_read, here_of, holds_with, holds_same, put, put_same}
 use Rattle.cache_array.proofs.cache.CacheArray.set_mru.Goals as goal

@@ -1,8 +1,7 @@
 use Rattle.std.proofs.Common.{List, length, ap, ◌∙◌}
 use Rattle.sequencer.specs.declared.issued.Issued.{Issued}
-use Rattle.sequencer.specs.Drive.{after_taking}
-use Rattle.sequencer.specs.Seats.{Seat}
-use Rattle.controller_rows.specs.Script.{due, first_answers, left}
+use Rattle.sequencer.specs.Prelude.{after_taking, Seat}
+use Rattle.controller_rows.specs.Prelude.{due, first_answers, left}
 use Rattle.controller_rows.proofs.Issuing.{after-both, after_each}
 use Rattle.controller_rows.proofs.script.Script.act.Goals as goal
 

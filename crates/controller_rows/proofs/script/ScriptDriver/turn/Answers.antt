@@ -1,6 +1,5 @@
 use Rattle.sequencer.proofs.SeatsAfter.{still-fit}
-use Rattle.controller_rows.specs.Law.{script_lawful}
-use Rattle.controller_rows.specs.Script.{script_drive, script_needs}
+use Rattle.controller_rows.specs.Prelude.{script_lawful, script_drive, script_needs}
 use Rattle.controller_rows.proofs.script.ScriptDriver.turn.Goals as goal
 
 pub returns-clause-fit : goal.returns-clause-fit

@@ -1,5 +1,5 @@
 use Rattle.std.proofs.Common.{sym, subst}
-use Rattle.ctl_mail.specs.Told.{AreOf}
+use Rattle.ctl_mail.specs.Prelude.{AreOf}
 use Rattle.ctl_mail.proofs.Begun.{are-of-none}
 use Rattle.ctl_mail.proofs.changes.MailChanges.begin.Goals as goal
 

@@ -1,10 +1,8 @@
 use Rattle.std.proofs.Common.{◌≡◌, ◌≤◌, ◌∷◌, All, List, length, sym, subst, ap, ◌∙◌, arith}
-use Rattle.ctl_face.specs.Ctl.{Mail}
+use Rattle.ctl_face.specs.Prelude.{Mail}
 use Rattle.ctl_mail.specs.declared.act.MailAct.{MailAct}
-use Rattle.ctl_mail.specs.MailOf.{mail_of}
-use Rattle.ctl_mail.specs.Told.{AreMakeable, after_acts}
+use Rattle.ctl_mail.specs.Prelude.{mail_of, AreMakeable, after_acts, HasPlaces}
 use Rattle.ctl_mail.proofs.Acts.{after-first, after-none, none-there}
-use Rattle.ctl_mail.specs.Room.{HasPlaces}
 use Rattle.ctl_mail.proofs.Edits.{past-end}
 use Rattle.ctl_mail.proofs.Rooms.{room-after, room-places, room-to-wake, room-waits}
 use Rattle.ctl_mail.proofs.SentActs.{makeable-first}

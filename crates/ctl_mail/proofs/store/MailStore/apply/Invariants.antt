@@ -1,8 +1,6 @@
 use Rattle.std.proofs.Common.{◌≡◌}
 use Rattle.std.specs.VecDeque.{deque_len}
-use Rattle.ctl_mail.specs.MailOf.{IsMail, buffer_count, mail_of}
-use Rattle.ctl_mail.specs.Room.{HasRoomToMake}
-use Rattle.ctl_mail.specs.Told.{AreMakeable, after_acts, told_by}
+use Rattle.ctl_mail.specs.Prelude.{IsMail, buffer_count, mail_of, HasRoomToMake, AreMakeable, after_acts, told_by}
 use Rattle.ctl_mail.proofs.store.MailStore.apply.Given as goal
 
 -- what is left to be made leads to the changed mail

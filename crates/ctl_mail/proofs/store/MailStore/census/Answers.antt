@@ -1,9 +1,8 @@
 use Rattle.std.proofs.Common.{◌∙◌, List, All, count_by, not, sum_by, sym, subst, ap}
 use Rattle.ruby_value.specs.declared.message.Message.{Message}
-use Rattle.ruby_value.specs.Roomy.{Roomy}
-use Rattle.msg_buffer.specs.Queue.{IsQueue}
-use Rattle.ctl_mail.specs.Census.{capped}
-use Rattle.ctl_mail.specs.Queues.{Queues}
+use Rattle.ruby_value.specs.Prelude.{Roomy}
+use Rattle.msg_buffer.specs.Prelude.{IsQueue}
+use Rattle.ctl_mail.specs.Prelude.{capped, Queues}
 use Rattle.ctl_mail.proofs.Counts.{queued-count, recycled-count, stalled-count}
 use Rattle.ctl_mail.proofs.store.MailStore.census.Goals as goal
 

@@ -1,5 +1,5 @@
 use Rattle.std.proofs.Common.{ap, ◌∙◌}
-use Rattle.ctl_mail.specs.Inbox.{inbox_of}
+use Rattle.ctl_mail.specs.Prelude.{inbox_of}
 use Rattle.ctl_mail.proofs.Makes.{is-no-mail, no-messages}
 use Rattle.ctl_mail.proofs.store.MailStore.new.Goals as goal
 

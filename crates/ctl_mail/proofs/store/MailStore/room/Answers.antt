@@ -1,6 +1,6 @@
 use Rattle.std.proofs.Common.{ℕ, List, sym, subst, ap, ◌∙◌}
 use Rattle.std.specs.List.Sorted.{IsStrictlyIncreasing}
-use Rattle.ctl_mail.specs.MailOf.{mail_of}
+use Rattle.ctl_mail.specs.Prelude.{mail_of}
 use Rattle.ctl_mail.proofs.Makes.{same-queues}
 use Rattle.ctl_mail.proofs.store.MailStore.room.Goals as goal
 

@@ -1,8 +1,7 @@
 use Rattle.std.proofs.Common.{ap, sym, ◌∙◌}
 use Rattle.std.specs.Option.{option_copied}
-use Rattle.ctl_face.specs.Allocate.{allocate}
-use Rattle.ctl_face.specs.Lookup.{reference_to}
-use Rattle.ctl_store.specs.Scanned.{scanned}
+use Rattle.ctl_face.specs.Prelude.{allocate, reference_to}
+use Rattle.ctl_store.specs.Prelude.{scanned}
 use Rattle.ctl_store.proofs.Stays.{Steps}
 use Rattle.ctl_store.proofs.TableSteps.{allocate_step, initial_is, with_changes}
 use Rattle.ctl_store.proofs.scan.Scan.allocate.Goals as goal

@@ -1,5 +1,5 @@
-use Rattle.ctl_face.specs.Deallocate.{deallocate}
-use Rattle.ctl_store.specs.Scanned.{scanned}
+use Rattle.ctl_face.specs.Prelude.{deallocate}
+use Rattle.ctl_store.specs.Prelude.{scanned}
 use Rattle.ctl_store.proofs.Stays.{Steps}
 use Rattle.ctl_store.proofs.TableSteps.{deallocate_step, with_changes}
 use Rattle.ctl_store.proofs.scan.Scan.deallocate.Goals as goal

@@ -1,5 +1,5 @@
-use Rattle.ctl_face.specs.Pop.{pop}
-use Rattle.ctl_store.specs.Scanned.{scanned}
+use Rattle.ctl_face.specs.Prelude.{pop}
+use Rattle.ctl_store.specs.Prelude.{scanned}
 use Rattle.ctl_store.proofs.MailSteps.{pop_step, with_mail_changes}
 use Rattle.ctl_store.proofs.Stays.{Steps}
 use Rattle.ctl_store.proofs.scan.Scan.pop.Goals as goal

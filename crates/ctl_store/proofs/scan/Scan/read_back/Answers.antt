@@ -1,9 +1,7 @@
 use Rattle.std.proofs.Common.{Result, subst, sym}
 use Rattle.ctl_face.specs.declared.trouble.Trouble.{Trouble}
-use Rattle.ctl_face.specs.Does.{Does}
-use Rattle.ctl_face.specs.Callback.{read_back}
-use Rattle.ctl_store.specs.Answered.{as_trouble}
-use Rattle.ctl_store.specs.Scanned.{local_of, scanned}
+use Rattle.ctl_face.specs.Prelude.{Does, read_back}
+use Rattle.ctl_store.specs.Prelude.{as_trouble, local_of, scanned}
 use Rattle.ctl_store.proofs.CallSteps.{read_step, with_calls}
 use Rattle.ctl_store.proofs.Stays.{Steps}
 use Rattle.ctl_store.proofs.scan.Scan.read_back.Goals as goal

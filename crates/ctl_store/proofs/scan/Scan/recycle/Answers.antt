@@ -1,9 +1,8 @@
 use Rattle.std.proofs.Common.{ℤ, subst, w64}
 use Rattle.std.proofs.lemmas.Int.{to_z-of_z}
-use Rattle.ctl_mail.specs.MailView.{MailDoes, view_recycled}
-use Rattle.ctl_mail.specs.Told.{told_by}
-use Rattle.ctl_face.specs.Recycle.{recycle}
-use Rattle.ctl_store.specs.Scanned.{scanned}
+use Rattle.ctl_mail.specs.Prelude.{MailDoes, view_recycled, told_by}
+use Rattle.ctl_face.specs.Prelude.{recycle}
+use Rattle.ctl_store.specs.Prelude.{scanned}
 use Rattle.ctl_store.proofs.MailSteps.{after, before, recycle_step, with_mail_changes}
 use Rattle.ctl_store.proofs.Stays.{Steps}
 use Rattle.ctl_store.proofs.scan.Scan.recycle.Goals as goal

@@ -1,10 +1,8 @@
 use Rattle.std.proofs.Common.{ℤ, subst, w64}
 use Rattle.std.proofs.lemmas.Int.{to_z-of_z}
-use Rattle.ctl_mail.specs.MailView.{MailDoes}
-use Rattle.ctl_mail.specs.Sends.{actor_of, view_sent}
-use Rattle.ctl_mail.specs.Told.{told_by}
-use Rattle.ctl_face.specs.Enqueue.{enqueue}
-use Rattle.ctl_store.specs.Scanned.{scanned}
+use Rattle.ctl_mail.specs.Prelude.{MailDoes, actor_of, view_sent, told_by}
+use Rattle.ctl_face.specs.Prelude.{enqueue}
+use Rattle.ctl_store.specs.Prelude.{scanned}
 use Rattle.ctl_store.proofs.MailSteps.{after, before, send_step, with_mail_changes}
 use Rattle.ctl_store.proofs.Stays.{Steps}
 use Rattle.ctl_store.proofs.scan.Scan.send.Goals as goal

@@ -1,5 +1,5 @@
-use Rattle.ctl_face.specs.Set.{set}
-use Rattle.ctl_store.specs.Scanned.{scanned}
+use Rattle.ctl_face.specs.Prelude.{set}
+use Rattle.ctl_store.specs.Prelude.{scanned}
 use Rattle.ctl_store.proofs.Stays.{Steps}
 use Rattle.ctl_store.proofs.TableSteps.{field_within, set_step, with_changes}
 use Rattle.ctl_store.proofs.scan.Scan.set.Goals as goal

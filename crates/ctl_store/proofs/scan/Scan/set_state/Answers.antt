@@ -1,6 +1,6 @@
 use Rattle.std.proofs.Common.{Ok}
-use Rattle.ctl_face.specs.State.{set_state}
-use Rattle.ctl_store.specs.Scanned.{scanned}
+use Rattle.ctl_face.specs.Prelude.{set_state}
+use Rattle.ctl_store.specs.Prelude.{scanned}
 use Rattle.ctl_store.proofs.Stays.{Steps}
 use Rattle.ctl_store.proofs.TableSteps.{set_state_step, with_changes}
 use Rattle.ctl_store.proofs.scan.Scan.set_state.Goals as goal

@@ -1,5 +1,5 @@
-use Rattle.ctl_face.specs.Stall.{stall}
-use Rattle.ctl_store.specs.Scanned.{scanned}
+use Rattle.ctl_face.specs.Prelude.{stall}
+use Rattle.ctl_store.specs.Prelude.{scanned}
 use Rattle.ctl_store.proofs.MailSteps.{stall_step, with_mail_changes}
 use Rattle.ctl_store.proofs.Stays.{Steps}
 use Rattle.ctl_store.proofs.scan.Scan.stall.Goals as goal

@@ -1,5 +1,5 @@
-use Rattle.ctl_face.specs.Touch.{touch}
-use Rattle.ctl_store.specs.Scanned.{scanned}
+use Rattle.ctl_face.specs.Prelude.{touch}
+use Rattle.ctl_store.specs.Prelude.{scanned}
 use Rattle.ctl_store.proofs.Stays.{Steps}
 use Rattle.ctl_store.proofs.TableSteps.{touch_step, with_changes}
 use Rattle.ctl_store.proofs.scan.Scan.touch.Goals as goal

@@ -1,6 +1,6 @@
 use Rattle.std.proofs.Common.{Ok}
-use Rattle.ctl_face.specs.Wake.{wake_all}
-use Rattle.ctl_store.specs.Scanned.{scanned}
+use Rattle.ctl_face.specs.Prelude.{wake_all}
+use Rattle.ctl_store.specs.Prelude.{scanned}
 use Rattle.ctl_store.proofs.MailSteps.{wake_all_step, with_mail_changes}
 use Rattle.ctl_store.proofs.Stays.{Steps}
 use Rattle.ctl_store.proofs.scan.Scan.wake_all.Goals as goal

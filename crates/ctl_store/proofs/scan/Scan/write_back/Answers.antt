@@ -1,10 +1,8 @@
 use Rattle.std.proofs.Common.{Result, subst, sym}
 use Rattle.ruby_value.specs.declared.value.Block.{Block}
 use Rattle.ctl_face.specs.declared.trouble.Trouble.{Trouble}
-use Rattle.ctl_face.specs.Does.{DoesWith}
-use Rattle.ctl_face.specs.Callback.{block_after_write, write_back}
-use Rattle.ctl_store.specs.Answered.{as_trouble}
-use Rattle.ctl_store.specs.Scanned.{local_of, scanned}
+use Rattle.ctl_face.specs.Prelude.{DoesWith, block_after_write, write_back}
+use Rattle.ctl_store.specs.Prelude.{as_trouble, local_of, scanned}
 use Rattle.ctl_store.proofs.CallSteps.{write_step, with_calls}
 use Rattle.ctl_store.proofs.Stays.{Steps}
 use Rattle.ctl_store.proofs.scan.Scan.write_back.Goals as goal

@@ -1,6 +1,6 @@
 use Rattle.std.proofs.Common.{◌+◌, subst, sym}
 use Rattle.ctl_store.specs.declared.parts.Parts.{Parts}
-use Rattle.ctl_store.specs.Room.{HasRoomForMessages}
+use Rattle.ctl_store.specs.Prelude.{HasRoomForMessages}
 use Rattle.ctl_store.proofs.store.Store.arrive.Goals as goal
 
 pub returns-clause-room : goal.returns-clause-room

@@ -1,9 +1,8 @@
 use Rattle.std.proofs.Common.{ℕ, List, Option, false}
 use Rattle.std.specs.FinMap as map
 use Rattle.std.specs.Ordering.{nat_cmp}
-use Rattle.ctl_face.specs.Ctl.{Ctl, Mail}
-use Rattle.ruby_value.specs.Requests.{Requests}
-use Rattle.ctl_face.specs.Table.{Table}
+use Rattle.ctl_face.specs.Prelude.{Ctl, Mail, Table}
+use Rattle.ruby_value.specs.Prelude.{Requests}
 use Rattle.ctl_store.proofs.Joined.{four}
 use Rattle.ctl_store.proofs.store.Store.of.Goals as goal
 

@@ -1,8 +1,6 @@
 use Rattle.std.proofs.Common.{◌≡◌, ◌<◌, ◌∙◌, ℕ, arith, refl, sym}
 use Rattle.ctl_tables.specs.declared.change.Edit.TheVariants as edit
-use Rattle.ctl_tables.specs.Frames.{loses_lines}
-use Rattle.ctl_tables.specs.Stored.{log_of, tables_now, tables_of}
-use Rattle.ctl_tables.specs.TableActs.{allocate_in}
+use Rattle.ctl_tables.specs.Prelude.{loses_lines, log_of, tables_now, tables_of, allocate_in}
 use Rattle.ctl_tables.proofs.Adding.{add_done_by, add_full, add_nothing, add_present}
 use Rattle.ctl_tables.proofs.Doing.{does_by_log, replays_by_log}
 use Rattle.ctl_tables.proofs.Steps.{kind_now}

@@ -1,7 +1,6 @@
 use Rattle.std.proofs.Common.{◌∙◌, ap, sym}
 use Rattle.std.specs.Bool.{nat_lt}
-use Rattle.ctl_tables.specs.Frames.{keeps_order}
-use Rattle.ctl_tables.specs.Stored.{log_of, tables_now, tables_of}
+use Rattle.ctl_tables.specs.Prelude.{keeps_order, log_of, tables_now, tables_of}
 use Rattle.ctl_tables.proofs.Adding.{avail_left, avail_other, avail_there}
 use Rattle.ctl_tables.proofs.Steps.{kind_now}
 use Rattle.ctl_tables.proofs.held.Tables.avail.Goals as goal

@@ -1,4 +1,4 @@
-use Rattle.ctl_tables.specs.Stored.{log_of, tables_of}
+use Rattle.ctl_tables.specs.Prelude.{log_of, tables_of}
 use Rattle.ctl_tables.proofs.Replaying.{nothing_made, nothing_replays}
 use Rattle.ctl_tables.proofs.held.Tables.changes.Goals as goal
 

@@ -1,8 +1,6 @@
 use Rattle.std.proofs.Common.{◌≡◌, ◌∙◌, true, false, ap, is_some, refl, sym}
 use Rattle.ctl_tables.specs.declared.change.Edit.TheVariants as edit
-use Rattle.ctl_tables.specs.Frames.{frame_at, loses_lines}
-use Rattle.ctl_tables.specs.Stored.{log_of, tables_now, tables_of}
-use Rattle.ctl_tables.specs.TableActs.{deallocate_in, fields_at}
+use Rattle.ctl_tables.specs.Prelude.{frame_at, loses_lines, log_of, tables_now, tables_of, deallocate_in, fields_at}
 use Rattle.ctl_tables.proofs.Doing.{does_by_log, replays_by_log}
 use Rattle.ctl_tables.proofs.Losing.{remove_absent, remove_done, remove_nothing}
 use Rattle.ctl_tables.proofs.Steps.{frames_after}

@@ -1,9 +1,8 @@
 use Rattle.std.proofs.Common.{◌∙◌, ℕ, List, Option, refl, slice_get, sym, ap}
 use Rattle.std.specs.Option.{option_and_then}
 use Rattle.ruby_value.specs.declared.value.Value.{Value}
-use Rattle.ctl_face.specs.FieldsIn.{fields_in}
-use Rattle.ctl_face.specs.Table.{Table}
-use Rattle.ctl_tables.specs.Stored.{log_of, tables_of}
+use Rattle.ctl_face.specs.Prelude.{fields_in, Table}
+use Rattle.ctl_tables.specs.Prelude.{log_of, tables_of}
 use Rattle.ctl_tables.proofs.Finding.{nowhere}
 use Rattle.ctl_tables.proofs.Readings.{field_told, field_untold}
 use Rattle.ctl_tables.proofs.held.Tables.field.Goals as goal

@@ -1,6 +1,5 @@
 use Rattle.std.proofs.Common.{◌≡◌, ◌∙◌, true, false, ap, slice_get, sym}
-use Rattle.ctl_tables.specs.Frames.{frame_at, keeps_order}
-use Rattle.ctl_tables.specs.Stored.{log_of, tables_now, tables_of}
+use Rattle.ctl_tables.specs.Prelude.{frame_at, keeps_order, log_of, tables_now, tables_of}
 use Rattle.ctl_tables.proofs.Counting.{free_is_room, none_free}
 use Rattle.ctl_tables.proofs.Steps.{frames_after}
 use Rattle.ctl_tables.proofs.held.Tables.free.Goals as goal

@@ -1,8 +1,7 @@
 use Rattle.std.proofs.Common.{◌∙◌, ℕ, Bool, Option, is_some, refl, sym, ap}
 use Rattle.std.specs.Option.{option_and_then}
-use Rattle.ctl_face.specs.FieldsIn.{fields_in}
-use Rattle.ctl_face.specs.Table.{Table}
-use Rattle.ctl_tables.specs.Stored.{log_of, tables_of}
+use Rattle.ctl_face.specs.Prelude.{fields_in, Table}
+use Rattle.ctl_tables.specs.Prelude.{log_of, tables_of}
 use Rattle.ctl_tables.proofs.Finding.{nowhere}
 use Rattle.ctl_tables.proofs.Readings.{line_told, line_untold}
 use Rattle.ctl_tables.proofs.held.Tables.has_line.Goals as goal

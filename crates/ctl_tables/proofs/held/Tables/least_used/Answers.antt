@@ -1,12 +1,9 @@
 use Rattle.std.proofs.Common.{◌∙◌, List, Option, Some, ap, reverse, slice_get, sym}
 use Rattle.std.specs.Option.{option_map}
-use Rattle.ruby_value.specs.SetOf.{set_of}
-use Rattle.ctl_face.specs.Avail.{least_used_in}
-use Rattle.ctl_face.specs.Table.{CacheTable, Table}
+use Rattle.ruby_value.specs.Prelude.{set_of}
+use Rattle.ctl_face.specs.Prelude.{least_used_in, CacheTable, Table}
 use Rattle.ctl_tables.specs.declared.change.TableChange.{TableChange}
-use Rattle.ctl_tables.specs.Frames.{frame_of, keeps_order}
-use Rattle.ctl_tables.specs.Recency.{numbers_of, order_after}
-use Rattle.ctl_tables.specs.Stored.{log_of, tables_now, tables_of}
+use Rattle.ctl_tables.specs.Prelude.{frame_of, keeps_order, numbers_of, order_after, log_of, tables_now, tables_of}
 use Rattle.ctl_tables.proofs.Finding.{nowhere}
 use Rattle.ctl_tables.proofs.Recent.{least_now, none_least}
 use Rattle.ctl_tables.proofs.Steps.{kind_now}

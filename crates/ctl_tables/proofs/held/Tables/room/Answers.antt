@@ -1,9 +1,6 @@
 use Rattle.std.proofs.Common.{◌∙◌, ◌-◌, List, Some, reverse, sym, ap}
 use Rattle.ctl_tables.specs.declared.change.TableChange.{TableChange}
-use Rattle.ctl_tables.specs.Container.{table_of}
-use Rattle.ctl_tables.specs.Frames.{frame_of}
-use Rattle.ctl_tables.specs.Places.{lines_after, lines_beside, places_of}
-use Rattle.ctl_tables.specs.Stored.{log_of, tables_of}
+use Rattle.ctl_tables.specs.Prelude.{table_of, frame_of, lines_after, lines_beside, places_of, log_of, tables_of}
 use Rattle.ctl_tables.proofs.Counting.{no_room, room_of}
 use Rattle.ctl_tables.proofs.held.Tables.room.Goals as goal
 

@@ -1,6 +1,5 @@
 use Rattle.ctl_tables.specs.declared.change.Edit.TheVariants as edit
-use Rattle.ctl_tables.specs.Stored.{log_of, tables_now, tables_of}
-use Rattle.ctl_tables.specs.TableActs.{set_in}
+use Rattle.ctl_tables.specs.Prelude.{log_of, tables_now, tables_of, set_in}
 use Rattle.ctl_tables.proofs.Doing.{does_by_log, fill_done, replays_by_log, write_done}
 use Rattle.ctl_tables.proofs.held.Tables.set.Goals as goal
 

@@ -1,6 +1,6 @@
 use Rattle.std.proofs.Common.{◌∙◌, ℕ, List, ap, eqb, reverse}
 use Rattle.std.specs.Map.{lookup}
-use Rattle.ctl_tables.specs.Stored.{default_of, state_log_of, states_of}
+use Rattle.ctl_tables.specs.Prelude.{default_of, state_log_of, states_of}
 use Rattle.ctl_tables.proofs.StatesSet.{state_told}
 use Rattle.ctl_tables.proofs.held.Tables.state.Goals as goal
 

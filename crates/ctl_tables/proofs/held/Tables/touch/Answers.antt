@@ -1,8 +1,6 @@
 use Rattle.std.proofs.Common.{◌≡◌, ◌∙◌, true, false, ap, is_some, refl, sym}
 use Rattle.ctl_tables.specs.declared.change.Edit.TheVariants as edit
-use Rattle.ctl_tables.specs.Frames.{frame_at, keeps_order}
-use Rattle.ctl_tables.specs.Stored.{log_of, tables_now, tables_of}
-use Rattle.ctl_tables.specs.TableActs.{touch_in, fields_at}
+use Rattle.ctl_tables.specs.Prelude.{frame_at, keeps_order, log_of, tables_now, tables_of, touch_in, fields_at}
 use Rattle.ctl_tables.proofs.Doing.{does_by_log, replays_by_log}
 use Rattle.ctl_tables.proofs.Losing.{use_absent, use_done, use_nothing}
 use Rattle.ctl_tables.proofs.Steps.{frames_after}

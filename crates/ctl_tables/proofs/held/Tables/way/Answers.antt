@@ -1,6 +1,5 @@
 use Rattle.std.proofs.Common.{◌∙◌, refl, sym}
-use Rattle.ctl_tables.specs.Container.{table_of}
-use Rattle.ctl_tables.specs.Stored.{log_of, tables_of}
+use Rattle.ctl_tables.specs.Prelude.{table_of, log_of, tables_of}
 use Rattle.ctl_tables.proofs.Finding.{nowhere, way_absent, way_as_before, way_kept}
 use Rattle.ctl_tables.proofs.Readings.{kept_is_told, kept_untold, line_told, line_untold}
 use Rattle.ctl_tables.proofs.held.Tables.way.Goals as goal

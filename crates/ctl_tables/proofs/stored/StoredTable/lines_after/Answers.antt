@@ -1,8 +1,6 @@
 use Rattle.std.proofs.Common.{◌∙◌, Some, ap, arith, reverse, sym, take}
 use Rattle.ctl_tables.specs.declared.change.TableChange.{TableChange}
-use Rattle.ctl_tables.specs.Container.{table_of}
-use Rattle.ctl_tables.specs.Frames.{frame_of}
-use Rattle.ctl_tables.specs.Places.{lines_after, lines_beside, lines_changed}
+use Rattle.ctl_tables.specs.Prelude.{table_of, frame_of, lines_after, lines_beside, lines_changed}
 use Rattle.ctl_tables.proofs.Counting.{one_more}
 use Rattle.ctl_tables.proofs.stored.StoredTable.lines_after.Goals as goal
 

@@ -1,7 +1,5 @@
 use Rattle.std.proofs.Common.{◌≡◌, ◌≤◌, ◌+◌, ◌^◌, Some, reverse, take}
-use Rattle.ctl_tables.specs.Container.{table_of}
-use Rattle.ctl_tables.specs.Frames.{frame_of}
-use Rattle.ctl_tables.specs.Places.{lines_after, lines_beside}
+use Rattle.ctl_tables.specs.Prelude.{table_of, frame_of, lines_after, lines_beside}
 use Rattle.ctl_tables.proofs.stored.StoredTable.lines_after.Given as goal
 
 abbrev pub invariant-loop-change : goal.invariant-loop-change

@@ -1,6 +1,6 @@
 use Rattle.std.proofs.Common.{◌∙◌, ap}
 use Rattle.std.specs.List.{list_any}
-use Rattle.declared_types.specs.Scopes.{ScopeTable, is_machine_named, summaries}
+use Rattle.declared_types.specs.Prelude.{ScopeTable, is_machine_named, summaries}
 use Rattle.declared_types.proofs.ScopeTables.{bears_machine}
 use Rattle.declared_types.proofs.scopes.Scopes.has_machine.Goals as goal
 

@@ -1,7 +1,6 @@
 use Rattle.std.proofs.Common.{◌∙◌, sym, codes}
 use Rattle.std.specs.Str.{bytes_eq}
-use Rattle.slicc_plan.specs.BuiltInCalls.{permission_call}
-use Rattle.slicc_plan.specs.Declarations.{machine_names}
+use Rattle.slicc_plan.specs.Prelude.{permission_call, machine_names}
 use Rattle.declared_types.proofs.NameParts.{among_suffixed, list_any_none}
 use Rattle.declared_types.proofs.scopes.Scopes.has_permission_call.Goals as goal
 

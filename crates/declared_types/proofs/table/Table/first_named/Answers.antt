@@ -1,6 +1,6 @@
 use Rattle.std.proofs.Common.{ap, ◌∙◌}
 use Rattle.std.specs.Option.{option_map}
-use Rattle.declared_types.specs.Lent.{declaration_of}
+use Rattle.declared_types.specs.Prelude.{declaration_of}
 use Rattle.declared_types.proofs.Index.{found_none, found_some}
 use Rattle.declared_types.proofs.table.Table.first_named.Goals as goal
 

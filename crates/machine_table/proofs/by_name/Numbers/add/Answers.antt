@@ -1,5 +1,5 @@
 use Rattle.std.proofs.Common.{◌≡◌, true, false, is_some, ap, sym, ◌∙◌}
-use Rattle.ruby_base.specs.Numbering.{number_among}
+use Rattle.ruby_base.specs.Prelude.{number_among}
 use Rattle.machine_table.proofs.NumbersOfNames.{found_added, found_there}
 use Rattle.machine_table.proofs.by_name.Numbers.add.Goals as goal
 

@@ -1,5 +1,5 @@
 use Rattle.std.proofs.Common.{None, Some, refl, sym, arith}
-use Rattle.msg_buffer.specs.Queue.{is_ready}
+use Rattle.msg_buffer.specs.Prelude.{is_ready}
 use Rattle.msg_buffer.proofs.Queues.{begins-front, first-begins, none-begins, none-begins-late, past-end, front-law}
 use Rattle.msg_buffer.proofs.buffer.Buffer.front.Goals as goal
 use Rattle.msg_buffer.proofs.buffer.Buffer.front.Goals.{in_default-via-in-Some+else-m-now, in_default-via-in_default}

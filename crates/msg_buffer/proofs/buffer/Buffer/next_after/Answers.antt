@@ -1,6 +1,6 @@
 use Rattle.std.proofs.Common.{◌&&◌, not, refl, sym, rules, arith}
 use Rattle.std.proofs.lemmas.List.Sorted.{IsPartitionPoint-from_clause}
-use Rattle.msg_buffer.specs.Queue.{is_after, is_ready}
+use Rattle.msg_buffer.specs.Prelude.{is_after, is_ready}
 use Rattle.msg_buffer.proofs.Queues.{Begins, begins-after, first-begins, none-begins, none-begins-late, past-end, partitioned}
 use Rattle.msg_buffer.proofs.buffer.Buffer.next_after.Goals as goal
 use Rattle.msg_buffer.proofs.buffer.Buffer.next_after.Goals.{in_default-via-in-Some+else-m-now, in_default-via-in_default}

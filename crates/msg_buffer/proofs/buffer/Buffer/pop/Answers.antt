@@ -1,7 +1,7 @@
 use Rattle.std.proofs.Common.{◌≡◌, true, not, is_some, List, sym, ap, subst, ◌∙◌}
 use Rattle.ruby_value.specs.declared.message.Message.{Message}
-use Rattle.ruby_value.specs.Roomy.{Roomy}
-use Rattle.msg_buffer.specs.Queue.{front}
+use Rattle.ruby_value.specs.Prelude.{Roomy}
+use Rattle.msg_buffer.specs.Prelude.{front}
 use Rattle.msg_buffer.proofs.Queues.{found-front, popped-front, popped-rest}
 use Rattle.msg_buffer.proofs.buffer.Buffer.pop.Goals as goal
 

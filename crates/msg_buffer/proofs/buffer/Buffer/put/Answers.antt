@@ -1,7 +1,7 @@
 use Rattle.std.proofs.Common.{List, sym, subst}
 use Rattle.ruby_value.specs.declared.message.Message.{Message}
-use Rattle.ruby_value.specs.Roomy.{Roomy}
-use Rattle.msg_buffer.specs.Queue.{IsNew, IsQueue}
+use Rattle.ruby_value.specs.Prelude.{Roomy}
+use Rattle.msg_buffer.specs.Prelude.{IsNew, IsQueue}
 use Rattle.msg_buffer.proofs.Queues.{queue-with}
 use Rattle.msg_buffer.proofs.buffer.Buffer.put.Goals as goal
 use Rattle.msg_buffer.proofs.buffer.Buffer.put.Goals.{in-Ok, in-Err}

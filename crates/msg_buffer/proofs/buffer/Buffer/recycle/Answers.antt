@@ -1,5 +1,5 @@
 use Rattle.std.proofs.Common.{sym, subst}
-use Rattle.msg_buffer.specs.Queue.{IsNew}
+use Rattle.msg_buffer.specs.Prelude.{IsNew}
 use Rattle.msg_buffer.proofs.Queues.{new-without}
 use Rattle.msg_buffer.proofs.buffer.Buffer.recycle.Goals as goal
 

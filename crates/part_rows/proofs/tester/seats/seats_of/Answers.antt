@@ -1,8 +1,7 @@
 use Rattle.std.proofs.Common.{◌≡◌, ◌+◌, ◌*◌, ◌++◌, ◌∙◌, [], ◌∷◌, Some, ap, arith, subst, sym}
 use Rattle.std.specs.List.{AllPairs}
 use Rattle.sequencer.specs.declared.owned_seat.OwnedSeat.{OwnedSeat}
-use Rattle.sequencer.specs.OwnedSeats.{seats_of}
-use Rattle.sequencer.specs.Seats.{AreApart}
+use Rattle.sequencer.specs.Prelude.{seats_of, AreApart}
 use Rattle.part_rows.proofs.Apart.{AreBelow, apart-more, below-more}
 use Rattle.part_rows.proofs.tester.seats.seats_of.Goals as goal
 

@@ -1,7 +1,6 @@
 use Rattle.std.proofs.Common.{◌≡◌, ◌+◌, ◌*◌, vec_len}
 use Rattle.std.specs.List.{AllPairs}
-use Rattle.sequencer.specs.OwnedSeats.{seats_of}
-use Rattle.sequencer.specs.Seats.{AreApart}
+use Rattle.sequencer.specs.Prelude.{seats_of, AreApart}
 use Rattle.part_rows.proofs.Apart.{AreBelow}
 use Rattle.part_rows.proofs.tester.seats.seats_of.Given as goal
 

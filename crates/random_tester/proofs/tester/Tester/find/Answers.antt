@@ -1,8 +1,8 @@
 use Rattle.std.proofs.Common.{ℕ, ◌≤◌, List, length, subst, sym}
 use Rattle.std.specs.List.{All}
-use Rattle.sequencer.specs.Seats.{FitsSeat, Seat}
+use Rattle.sequencer.specs.Prelude.{FitsSeat, Seat}
 use Rattle.sequencer.proofs.SeatsAfter.{fit-after, length-kept}
-use Rattle.random_tester.specs.Turn.{finished_from, took}
+use Rattle.random_tester.specs.Prelude.{finished_from, took}
 use Rattle.random_tester.proofs.tester.Tester.find.Goals as goal
 
 pub first_late-requires : goal.first_late-requires

@@ -1,5 +1,5 @@
 use Rattle.std.proofs.Common.{◌≡◌, ◌+◌, ◌-◌, ◌≤◌, length}
-use Rattle.random_tester.specs.Answers.{from}
+use Rattle.random_tester.specs.Prelude.{from}
 use Rattle.random_tester.proofs.Taking.{SameEnd}
 use Rattle.random_tester.proofs.tester.Tester.take.Given as goal
 

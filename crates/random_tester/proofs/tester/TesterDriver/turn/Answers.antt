@@ -1,6 +1,5 @@
 use Rattle.sequencer.proofs.SeatsAfter.{still-fit}
-use Rattle.random_tester.specs.Law.{tester_lawful}
-use Rattle.random_tester.specs.Turn.{tester_drive, tester_needs}
+use Rattle.random_tester.specs.Prelude.{tester_lawful, tester_drive, tester_needs}
 use Rattle.random_tester.proofs.tester.TesterDriver.turn.Goals as goal
 
 pub returns-clause-fit : goal.returns-clause-fit

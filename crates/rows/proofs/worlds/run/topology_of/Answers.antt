@@ -1,7 +1,7 @@
 use Rattle.std.proofs.lemmas.Result.{IfOk-weaker}
-use Rattle.slicc_plan.specs.SymbolsOf.{symbols_of}
-use Rattle.ruby_topology.specs.Topology.{IsTopologyOf}
-use Rattle.protocol_meaning.specs.FitsPlan.{FitsPlan}
+use Rattle.slicc_plan.specs.Prelude.{symbols_of}
+use Rattle.ruby_topology.specs.Prelude.{IsTopologyOf}
+use Rattle.protocol_meaning.specs.Prelude.{FitsPlan}
 use Rattle.rows.proofs.worlds.run.topology_of.Goals as goal
 
 pub returns : goal.returns

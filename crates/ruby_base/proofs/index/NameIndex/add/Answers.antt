@@ -5,8 +5,7 @@ use Rattle.std.specs.Map.{KeepsOthers}
 use Rattle.std.specs.List.{list_any}
 use Rattle.std.specs.Str.{bytes_eq}
 use Rattle.std.proofs.lemmas.List.{length-append, length-map, map-append}
-use Rattle.ruby_base.specs.Numbering.{AreDistinct, is_name, number_among}
-use Rattle.ruby_base.specs.Finds.{Finds}
+use Rattle.ruby_base.specs.Prelude.{AreDistinct, is_name, number_among, Finds}
 use Rattle.ruby_base.proofs.Keys.{distinct-new, found, not_some, number-new, number-other, with_name-new, with_name-there}
 use Rattle.ruby_base.proofs.index.NameIndex.add.Goals as goal
 

@@ -1,7 +1,6 @@
 use Rattle.std.proofs.Common.{◌≡◌, ℕ, Vec, Global, [], refl, sym, ap, subst, map, arith}
 use Rattle.std.specs.List.{IsDistinct}
-use Rattle.ruby_base.specs.Numbering.{AreDistinct}
-use Rattle.ruby_base.specs.Finds.{Finds}
+use Rattle.ruby_base.specs.Prelude.{AreDistinct, Finds}
 use Rattle.ruby_base.proofs.index.NameIndex.new.Goals as goal
 
 pub invariant_of-result : goal.invariant_of-result

@@ -1,5 +1,5 @@
 use Rattle.std.proofs.Common.{◌≡◌, ◌≤◌, ◌+◌, vec_len}
-use Rattle.ruby_value.specs.WithAll.{with_all}
+use Rattle.ruby_value.specs.Prelude.{with_all}
 use Rattle.ruby_value.proofs.line_map.LineMap.put_all.Given as goal
 
 abbrev pub invariant-loop-line : goal.invariant-loop-line

@@ -3,8 +3,7 @@ use Rattle.std.specs.Int.{w64}
 use Rattle.std.proofs.lemmas.Nat.{or_lt}
 use Rattle.std.proofs.lemmas.Nat.Bits.{bit_at_set_same, bit_at_set_other}
 use Rattle.std.proofs.lemmas.Result.{on_ok_weaker}
-use Rattle.ruby_value.specs.Bits.{bits_of}
-use Rattle.ruby_value.specs.WithMember.{with_member}
+use Rattle.ruby_value.specs.Prelude.{bits_of, with_member}
 use Rattle.ruby_value.proofs.Words.{member_far, far_member, set_near, far_with}
 use Rattle.ruby_value.proofs.net_dest.NetDest.add.Goals as goal
 

@@ -1,5 +1,5 @@
 use Rattle.std.proofs.Common.{◌≡◌, Bool, true, false, cond, None, sym, ap, ◌∙◌}
-use Rattle.ruby_value.specs.Requests.{request_for}
+use Rattle.ruby_value.specs.Prelude.{request_for}
 use Rattle.sequencer.proofs.CallbackLog.{finishes, request-after}
 use Rattle.sequencer.proofs.callbacks.Callbacks.request.Goals as goal
 

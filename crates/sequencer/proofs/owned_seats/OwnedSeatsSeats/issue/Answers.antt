@@ -1,7 +1,7 @@
 use Rattle.std.proofs.Common.{ap, arith, ◌<◌, ◌-◌, ◌++◌, List, ◌∷◌, []}
 use Rattle.sequencer.specs.declared.issued.Issued.{Issued}
-use Rattle.ruby_value.specs.Requests.{Requests, with_request}
-use Rattle.sequencer.specs.Seats.{Seat, Seating}
+use Rattle.ruby_value.specs.Prelude.{Requests, with_request}
+use Rattle.sequencer.specs.Prelude.{Seat, Seating}
 use Rattle.sequencer.proofs.Owned.{room-for-fewer, seat-at, seat-changed, seat-unchanged, still-owned, within-seats}
 use Rattle.sequencer.proofs.owned_seats.OwnedSeatsSeats.issue.Goals as goal
 

@@ -1,6 +1,6 @@
 use Rattle.std.proofs.Common.{ap, arith}
-use Rattle.ruby_value.specs.Requests.{without_first_answer}
-use Rattle.sequencer.specs.Seats.{Seat}
+use Rattle.ruby_value.specs.Prelude.{without_first_answer}
+use Rattle.sequencer.specs.Prelude.{Seat}
 use Rattle.sequencer.proofs.Owned.{seat-at, seat-changed, still-owned, within-seats}
 use Rattle.sequencer.proofs.owned_seats.OwnedSeatsSeats.take_done.Goals as goal
 

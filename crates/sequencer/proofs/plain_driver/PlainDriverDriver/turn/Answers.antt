@@ -1,5 +1,4 @@
-use Rattle.sequencer.specs.PlainDriver.{plain_drive, plain_needs}
-use Rattle.sequencer.specs.PlainLaw.{plain_lawful}
+use Rattle.sequencer.specs.Prelude.{plain_drive, plain_needs, plain_lawful}
 use Rattle.sequencer.proofs.SeatsAfter.{still-fit}
 use Rattle.sequencer.proofs.plain_driver.PlainDriverDriver.turn.Goals as goal
 

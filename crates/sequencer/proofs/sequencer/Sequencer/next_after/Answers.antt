@@ -1,8 +1,8 @@
 use Rattle.std.proofs.Common.{List, Option, sym, ap, ◌∙◌}
 use Rattle.std.specs.List.{filter}
 use Rattle.ruby_value.specs.declared.asked.Asked.{Asked}
-use Rattle.sequencer.specs.Reads.{is_above}
-use Rattle.ruby_value.specs.Requests.{first_of}
+use Rattle.sequencer.specs.Prelude.{is_above}
+use Rattle.ruby_value.specs.Prelude.{first_of}
 use Rattle.sequencer.proofs.Oldest.{by_line-is}
 use Rattle.sequencer.proofs.sequencer.Sequencer.next_after.Goals as goal
 

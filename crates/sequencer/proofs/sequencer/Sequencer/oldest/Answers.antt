@@ -1,7 +1,6 @@
 use Rattle.std.proofs.Common.{sym, ap, ◌∙◌}
-use Rattle.sequencer.specs.Reads.{oldest_of}
-use Rattle.ruby_value.specs.Roomy.{Roomy}
-use Rattle.ruby_value.specs.Requests.{Requests}
+use Rattle.sequencer.specs.Prelude.{oldest_of}
+use Rattle.ruby_value.specs.Prelude.{Roomy, Requests}
 use Rattle.sequencer.proofs.Oldest.{by_line-is}
 use Rattle.sequencer.proofs.OldestLaw.{oldest-law}
 use Rattle.sequencer.proofs.sequencer.Sequencer.oldest.Goals as goal

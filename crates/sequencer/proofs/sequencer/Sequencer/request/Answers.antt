@@ -1,6 +1,6 @@
 use Rattle.std.proofs.Common.{ap, ◌∙◌}
 use Rattle.std.specs.FinMap as map
-use Rattle.sequencer.specs.Outstanding.{outstanding_of}
+use Rattle.sequencer.specs.Prelude.{outstanding_of}
 use Rattle.sequencer.proofs.sequencer.Sequencer.request.Goals as goal
 
 pub returns-clause-value : goal.returns-clause-value

@@ -1,8 +1,7 @@
 use Rattle.std.proofs.Common.{rules, ◌≡◌, ◌∷◌, ◌++◌, ◌∙◌, ap, sym, append-nil}
 use Rattle.std.proofs.lemmas.Result.{on_ok_weaker}
 use Rattle.slicc_ast.specs.declared.tree.balanced.Part.TheViews.{the_lemmas}
-use Rattle.slicc_ast.specs.Names.{balanced_list}
-use Rattle.slicc_ast.specs.Outline.{spans_in}
+use Rattle.slicc_ast.specs.Prelude.{balanced_list, spans_in}
 use Rattle.slicc_ast.proofs.SpansOfLists.{added_all}
 use Rattle.slicc_ast.proofs.SpansOfParts.{part_spans, balanced_list_spans, balanced_row_spans}
 use Rattle.slicc_ast.proofs.node_spans.balanced.+balanced_spans.Goals as goal

@@ -3,9 +3,8 @@ use Rattle.std.specs.List.{flat_map}
 use Rattle.std.proofs.lemmas.Result.{on_ok_weaker}
 use Rattle.slicc_ast.proofs.SpansOfLists.{args_spans, added_all, added_after, added_alone, added_behind, added_both}
 use Rattle.slicc_ast.proofs.SpansOfBoxes.{spans_of_Operation, spans_of_Postfix, spans_of_Not, spans_of_Negate, spans_of_IsValid, spans_of_IsInvalid, spans_of_Group, spans_of_Cast, spans_of_Call, spans_of_Method}
-use Rattle.slicc_ast.specs.Outline.{spans_of}
-use Rattle.slicc_ast.specs.Expressions.{expr, suffix}
-use Rattle.slicc_ast.specs.Spans.{operand_spans, suffix_spans}
+use Rattle.slicc_ast.specs.Prelude.{spans_of, expr, operand_spans, suffix_spans}
+use Rattle.slicc_ast.specs.Expressions.{suffix}
 use Rattle.slicc_ast.proofs.node_spans.expression.+expression_spans.Goals as goal
 
 pub add_expr-returns-in_ok-append-in-Call : goal.add_expr-returns-in_ok-append-in-Call

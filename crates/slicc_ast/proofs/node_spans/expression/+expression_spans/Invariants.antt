@@ -1,8 +1,6 @@
 use Rattle.std.proofs.Common.{◌≡◌, ◌++◌, take}
 use Rattle.std.specs.List.{flat_map}
-use Rattle.slicc_ast.specs.Expressions.{expr}
-use Rattle.slicc_ast.specs.Outline.{spans_of}
-use Rattle.slicc_ast.specs.Spans.{operand_spans, suffix_spans}
+use Rattle.slicc_ast.specs.Prelude.{expr, spans_of, operand_spans, suffix_spans}
 use Rattle.slicc_ast.proofs.node_spans.expression.+expression_spans.Given as goal
 
 abbrev pub invariant-add_args-loop-item : goal.invariant-add_args-loop-item

@@ -2,7 +2,7 @@ use Rattle.std.proofs.Common.{◌∷◌, ◌∙◌, [], ap}
 use Rattle.std.proofs.lemmas.Result.{on_ok_weaker}
 use Rattle.slicc_ast.specs.declared.tree.name.Name.{Name}
 use Rattle.slicc_ast.specs.Machines.{names}
-use Rattle.slicc_ast.specs.Outline.{none, spans_in}
+use Rattle.slicc_ast.specs.Prelude.{none, spans_in}
 use Rattle.slicc_ast.proofs.SpansOfLists.{added_behind}
 use Rattle.slicc_ast.proofs.SpansOfParts.{several_spans}
 use Rattle.slicc_ast.proofs.node_spans.machine.add_names.Goals as goal

@@ -2,10 +2,7 @@ use Rattle.std.proofs.Common.{◌≡◌, ◌∷◌, ◌++◌, ◌∙◌, [], inl
 use Rattle.std.specs.List.{flat_map}
 use Rattle.std.proofs.lemmas.Result.{on_ok_weaker}
 use Rattle.slicc_ast.specs.declared.tree.statement.If.{out-If}
-use Rattle.slicc_ast.specs.Outline.{spans_of}
-use Rattle.slicc_ast.specs.Expressions.{expr}
-use Rattle.slicc_ast.specs.Spans.{else_if_spans}
-use Rattle.slicc_ast.specs.Statements.{if_outline, stmt}
+use Rattle.slicc_ast.specs.Prelude.{spans_of, expr, else_if_spans, if_outline, stmt}
 use Rattle.slicc_ast.proofs.SpansOfLists.{added_all, added_after, added_last, added_alone, added_both, added_closed}
 use Rattle.slicc_ast.proofs.SpansOfStatements.{stmt_list_spans, if_some, if_none, added_four, spans_of_Return, spans_of_Peek, spans_of_Enqueue}
 use Rattle.slicc_ast.proofs.node_spans.statement.+statement_spans.Goals as goal

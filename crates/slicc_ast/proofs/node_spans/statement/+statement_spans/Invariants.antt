@@ -1,8 +1,6 @@
 use Rattle.std.proofs.Common.{◌≡◌, ◌++◌, take}
 use Rattle.std.specs.List.{flat_map}
-use Rattle.slicc_ast.specs.Outline.{spans_of}
-use Rattle.slicc_ast.specs.Spans.{else_if_spans}
-use Rattle.slicc_ast.specs.Statements.{stmt}
+use Rattle.slicc_ast.specs.Prelude.{spans_of, else_if_spans, stmt}
 use Rattle.slicc_ast.proofs.node_spans.statement.+statement_spans.Given as goal
 
 abbrev pub invariant-add_block-loop-statement : goal.invariant-add_block-loop-statement

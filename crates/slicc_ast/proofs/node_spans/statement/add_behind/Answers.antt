@@ -1,6 +1,5 @@
 use Rattle.std.proofs.lemmas.Result.{on_ok_weaker}
-use Rattle.slicc_ast.specs.Expressions.{expr}
-use Rattle.slicc_ast.specs.Outline.{spans_of}
+use Rattle.slicc_ast.specs.Prelude.{expr, spans_of}
 use Rattle.slicc_ast.proofs.SpansOfLists.{added_both}
 use Rattle.slicc_ast.proofs.node_spans.statement.add_behind.Goals as goal
 

@@ -1,6 +1,6 @@
 use Rattle.std.proofs.Common.{◌≡◌, map, take}
-use Rattle.slicc_names.specs.Names.{scope_names}
-use Rattle.slicc_plan.specs.Declarations.{wide_scopes}
+use Rattle.slicc_names.specs.Prelude.{scope_names}
+use Rattle.slicc_plan.specs.Prelude.{wide_scopes}
 use Rattle.slicc_names.proofs.names.Names.new.Given as goal
 
 abbrev pub invariant-loop-number : goal.invariant-loop-number

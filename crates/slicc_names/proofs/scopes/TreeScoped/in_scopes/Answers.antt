@@ -1,8 +1,7 @@
 use Rattle.std.proofs.Common.{flat_map, ap, ◌∙◌}
 use Rattle.std.proofs.lemmas.Result.{IfOk-weaker}
-use Rattle.slicc_plan.specs.Order.{first_after}
-use Rattle.slicc_plan.specs.TwiceDeclared.{repeated}
-use Rattle.slicc_names.specs.Repeated.{item_scopes}
+use Rattle.slicc_plan.specs.Prelude.{first_after, repeated}
+use Rattle.slicc_names.specs.Prelude.{item_scopes}
 use Rattle.slicc_names.proofs.scopes.TreeScoped.in_scopes.Goals as goal
 
 pub returns : goal.returns

@@ -1,6 +1,5 @@
 use Rattle.std.proofs.Common.{◌∙◌, ap, sym}
-use Rattle.slicc_plan.specs.Counts.{counts_of}
-use Rattle.slicc_plan.specs.SymbolsOf.{symbols_of}
+use Rattle.slicc_plan.specs.Prelude.{counts_of, symbols_of}
 use Rattle.slicc_plan.proofs.Accepted.{accepted_along}
 use Rattle.slicc_plan.proofs.plan.Plan.of.Goals as goal
 

@@ -1,7 +1,7 @@
 use Rattle.std.proofs.Common.{◌∙◌, ap, sym}
-use Rattle.slicc_ast.specs.Machines.{decl}
+use Rattle.slicc_ast.specs.Prelude.{decl}
 use Rattle.slicc_ast.specs.declared.tree.machine.Decl.TheVariants.{InPort}
-use Rattle.slicc_same.specs.Alike.{same_shape}
+use Rattle.slicc_same.specs.Prelude.{same_shape}
 use Rattle.slicc_same.proofs.machine.DeclSame.same.Goals as goal
 
 pub returns-in-InPort-InPort : goal.returns-in-InPort-InPort

@@ -1,12 +1,11 @@
 use Rattle.std.proofs.Common.{List, [], sym, subst, arith}
 use Rattle.std.specs.Ordering.{nat_cmp}
 use Rattle.std.specs.FinMap as map
-use Rattle.ruby_value.specs.IsBefore.{IsBefore}
+use Rattle.ruby_value.specs.Prelude.{IsBefore}
 use Rattle.ruby_value.proofs.Ordered.{AllPairs-nil}
 use Rattle.stall_map.specs.declared.lane.Lane.{Lane}
 use Rattle.stall_map.specs.declared.stalled.Stalled.{Stalled}
-use Rattle.stall_map.specs.Prepared.{ServesAll}
-use Rattle.stall_map.specs.Stalls.{Ascends}
+use Rattle.stall_map.specs.Prelude.{ServesAll, Ascends}
 use Rattle.stall_map.proofs.Lanes.{serves-new}
 use Rattle.stall_map.proofs.waiting.StallMap.new.Goals as goal
 

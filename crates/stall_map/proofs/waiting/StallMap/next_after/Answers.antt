@@ -1,6 +1,6 @@
 use Rattle.std.proofs.Common.{List, not, refl, rules, arith}
 use Rattle.std.proofs.lemmas.List.Sorted.{IsPartitionPoint-from_clause}
-use Rattle.ruby_value.specs.NumberBefore.{number_before}
+use Rattle.ruby_value.specs.Prelude.{number_before}
 use Rattle.stall_map.specs.declared.stalled.Stalled.{Stalled}
 use Rattle.stall_map.proofs.Numbered.{Begins, begins-after, begins-first, next-at, next-none, partitioned, past-end}
 use Rattle.stall_map.proofs.waiting.StallMap.next_after.Goals as goal

@@ -1,9 +1,9 @@
 use Rattle.std.proofs.Common.{◌≡◌, ◌+◌, ◌-◌, List, insert, refl, sym, ap, subst, ◌∙◌, arith}
 use Rattle.std.specs.VecDeque.{deque_len, deque_capacity}
-use Rattle.ruby_value.specs.Roomy.{Roomy}
+use Rattle.ruby_value.specs.Prelude.{Roomy}
 use Rattle.stall_map.specs.declared.lane.Lane.{Lane}
 use Rattle.stall_map.specs.declared.stalled.Stalled.{Stalled}
-use Rattle.stall_map.specs.Stalls.{Ascends}
+use Rattle.stall_map.specs.Prelude.{Ascends}
 use Rattle.stall_map.proofs.Lanes.{ok-holds, prepared-with}
 use Rattle.stall_map.proofs.Numbered.{ascends-with}
 use Rattle.stall_map.proofs.waiting.StallMap.put_reserved.Goals as goal

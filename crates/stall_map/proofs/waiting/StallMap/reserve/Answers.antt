@@ -4,8 +4,7 @@ use Rattle.std.specs.Ordering.{nat_cmp}
 use Rattle.std.specs.FinMap as map
 use Rattle.stall_map.specs.declared.lane.Lane.{Lane}
 use Rattle.stall_map.specs.declared.stalled.Stalled.{Stalled}
-use Rattle.stall_map.specs.Prepared.{IsWide, ServesAll}
-use Rattle.stall_map.specs.Stalls.{Ascends}
+use Rattle.stall_map.specs.Prelude.{IsWide, ServesAll, Ascends}
 use Rattle.stall_map.proofs.Lanes.{serves-none}
 use Rattle.stall_map.proofs.waiting.StallMap.reserve.Goals as goal
 use Rattle.stall_map.proofs.waiting.StallMap.reserve.Goals.{then-len-eq0, else-len-eq0}

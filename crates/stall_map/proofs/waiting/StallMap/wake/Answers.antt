@@ -2,8 +2,7 @@ use Rattle.std.proofs.Common.{◌≤◌, ◌-◌, List, length, not, sym, ap, su
 use Rattle.std.specs.List.{filter}
 use Rattle.std.specs.VecDeque.{deque_len, deque_capacity}
 use Rattle.stall_map.specs.declared.stalled.Stalled.{Stalled}
-use Rattle.stall_map.specs.Prepared.{Serves}
-use Rattle.stall_map.specs.Stalls.{is_under}
+use Rattle.stall_map.specs.Prelude.{Serves, is_under}
 use Rattle.stall_map.proofs.Lanes.{no-more, nothing-under, prepared-without}
 use Rattle.stall_map.proofs.waiting.StallMap.wake.Goals as goal
 

@@ -1,6 +1,6 @@
 use Rattle.std.proofs.Common.{◌-◌, [], ◌∷◌, ◌++◌, length, length-append, append_assoc, sym, ap, ◌∙◌, arith}
 use Rattle.std.specs.VecDeque.{deque_len, deque_capacity}
-use Rattle.stall_map.specs.Stalls.{messages_of}
+use Rattle.stall_map.specs.Prelude.{messages_of}
 use Rattle.stall_map.proofs.Lanes.{prepared-without}
 use Rattle.stall_map.proofs.waiting.StallMap.wake_all.Goals as goal
 

@@ -1,7 +1,6 @@
 use Rattle.std.proofs.Common.{◌≡◌, ◌+◌, ◌-◌, ◌≤◌, [], ◌++◌, length, vec_capacity}
 use Rattle.std.specs.VecDeque.{deque_len, deque_capacity}
-use Rattle.stall_map.specs.Prepared.{IsPrepared}
-use Rattle.stall_map.specs.Stalls.{messages_of}
+use Rattle.stall_map.specs.Prelude.{IsPrepared, messages_of}
 use Rattle.stall_map.proofs.waiting.StallMap.wake_all.Given as goal
 
 -- what was taken out and what still waits are what waited

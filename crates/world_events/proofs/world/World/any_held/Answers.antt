@@ -1,8 +1,8 @@
 use Rattle.std.proofs.Common.{List, ap, ◌∙◌}
 use Rattle.std.specs.List.{list_any}
 use Rattle.world_state.specs.declared.place.Place.{Place}
-use Rattle.world_state.specs.Places.{is_held}
-use Rattle.world_events.specs.Data.{view_of}
+use Rattle.world_state.specs.Prelude.{is_held}
+use Rattle.world_events.specs.Prelude.{view_of}
 use Rattle.world_events.proofs.ReadOff.{held-is}
 use Rattle.world_events.proofs.world.World.any_held.Goals as goal
 

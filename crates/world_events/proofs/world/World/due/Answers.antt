@@ -1,10 +1,9 @@
 use Rattle.std.proofs.Common.{List, ap, arith, ◌∙◌}
 use Rattle.std.specs.List.{position}
 use Rattle.world_state.specs.declared.place.Place.{Place}
-use Rattle.world_state.specs.Places.{is_free}
-use Rattle.protocol_meaning.specs.Meaning.{meaning_of}
-use Rattle.protocol_meaning.specs.Setting.{setting_of}
-use Rattle.world_events.specs.Data.{view_of}
+use Rattle.world_state.specs.Prelude.{is_free}
+use Rattle.protocol_meaning.specs.Prelude.{meaning_of, setting_of}
+use Rattle.world_events.specs.Prelude.{view_of}
 use Rattle.world_events.proofs.ReadOff.{due-is}
 use Rattle.world_events.proofs.Steps.{few-held}
 use Rattle.world_events.proofs.world.World.due.Goals as goal

@@ -1,7 +1,6 @@
 use Rattle.std.proofs.Common.{ap, arith, refl}
-use Rattle.protocol_meaning.specs.Meaning.{meaning_of}
-use Rattle.protocol_meaning.specs.Setting.{setting_of}
-use Rattle.world_state.specs.Places.{Made}
+use Rattle.protocol_meaning.specs.Prelude.{meaning_of, setting_of}
+use Rattle.world_state.specs.Prelude.{Made}
 use Rattle.world_events.proofs.Stays.{same-facts}
 use Rattle.world_events.proofs.Steps.{back-there, early, finish-facts, finish-goes, finish-nobody}
 use Rattle.world_events.proofs.world.World.finish.Goals.{in-Ok, in-Err}

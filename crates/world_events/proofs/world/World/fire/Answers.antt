@@ -1,13 +1,10 @@
 use Rattle.std.proofs.Common.{arith, refl, ap, ◌∙◌, ◌≡◌, subst, sym, ℕ, ◌+◌}
-use Rattle.ctl_face.specs.Ctl.{Ctl}
-use Rattle.ctl_store.specs.Sealed.{note_of, outcome_acts, outcome_ctl}
-use Rattle.protocol_runs.specs.Meaning.{acts_told}
-use Rattle.protocol_meaning.specs.Meaning.{meaning_of}
-use Rattle.protocol_meaning.specs.Setting.{setting_of}
-use Rattle.world_events.specs.declared.held.Held.{Held}
-use Rattle.world_events.specs.Data.{view_of}
-use Rattle.world_events.specs.Held.{Holds, IsSameHeld, ctl_in}
-use Rattle.world_events.specs.Worlds.{WorldView}
+use Rattle.ctl_face.specs.Prelude.{Ctl}
+use Rattle.ctl_store.specs.Prelude.{note_of, outcome_acts, outcome_ctl}
+use Rattle.protocol_runs.specs.Prelude.{acts_told}
+use Rattle.protocol_meaning.specs.Prelude.{meaning_of, setting_of}
+use Rattle.world_events.specs.declared.world.Held.{Held}
+use Rattle.world_events.specs.Prelude.{view_of, Holds, IsSameHeld, ctl_in, WorldView}
 use Rattle.world_events.proofs.Stays.{holds-same, made-stays, same-facts, same-view}
 use Rattle.world_events.proofs.Steps.{at-once, fire-facts, fire-holds, fire-scanned, holder}
 use Rattle.world_events.proofs.world.World.fire.Goals.{in-Err, in-Ok}

@@ -1,8 +1,8 @@
 use Rattle.std.proofs.Common.{List, ap, false, slice_get, ◌∙◌}
 use Rattle.std.specs.Option.{option_map_or}
 use Rattle.world_state.specs.declared.place.Place.{Place}
-use Rattle.world_state.specs.Places.{is_free}
-use Rattle.world_events.specs.Data.{view_of}
+use Rattle.world_state.specs.Prelude.{is_free}
+use Rattle.world_events.specs.Prelude.{view_of}
 use Rattle.world_events.proofs.ReadOff.{free-is}
 use Rattle.world_events.proofs.world.World.is_due.Goals as goal
 

@@ -1,4 +1,4 @@
-use Rattle.world_state.specs.States.{world_of}
+use Rattle.world_state.specs.Prelude.{world_of}
 use Rattle.world_events.proofs.world.World.law.Goals as goal
 
 pub returns-clause-run : goal.returns-clause-run

@@ -1,6 +1,6 @@
 use Rattle.std.proofs.Common.{List, rules, subst, sym}
 use Rattle.world_state.specs.declared.seat.SeatAt.{SeatAt}
-use Rattle.world_state.specs.Turning.{CanTurn}
+use Rattle.world_state.specs.Prelude.{CanTurn}
 use Rattle.world_events.proofs.Steps.{can-turn, turned-added, turned-facts, turned-nobody, turned-verdict}
 use Rattle.world_events.proofs.world.World.turn.Goals as goal
 

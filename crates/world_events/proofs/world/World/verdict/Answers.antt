@@ -1,5 +1,5 @@
 use Rattle.std.specs.Option.{option_copied}
-use Rattle.world_events.specs.Data.{view_of}
+use Rattle.world_events.specs.Prelude.{view_of}
 use Rattle.world_events.proofs.ReadOff.{verdict-is}
 use Rattle.world_events.proofs.world.World.verdict.Goals as goal
 

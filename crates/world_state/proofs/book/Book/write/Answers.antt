@@ -1,6 +1,6 @@
 use Rattle.std.proofs.Common.{List, sym, subst}
 use Rattle.run_journal.specs.declared.entry.Entry.{Entry}
-use Rattle.world_state.specs.Booked.{AreCounted}
+use Rattle.world_state.specs.Prelude.{AreCounted}
 use Rattle.world_state.proofs.Counting.{counted-more}
 use Rattle.world_state.proofs.book.Book.write.Goals as goal
 

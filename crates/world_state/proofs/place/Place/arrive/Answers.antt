@@ -1,9 +1,9 @@
 use Rattle.std.proofs.Common.{◌+◌, ◌<◌, length, subst, sym}
 use Rattle.ruby_value.specs.declared.setup.MachineSetup.{MachineSetup}
-use Rattle.ctl_face.specs.Ctl.{Ctl}
-use Rattle.ctl_mail.specs.MailOf.{IsNewIn}
-use Rattle.ctl_store.specs.Kept.{ctl_of}
-use Rattle.world_state.specs.Arrivals.{HasRoomBy, Suits, SuitsBy}
+use Rattle.ctl_face.specs.Prelude.{Ctl}
+use Rattle.ctl_mail.specs.Prelude.{IsNewIn}
+use Rattle.ctl_store.specs.Prelude.{ctl_of}
+use Rattle.world_state.specs.Prelude.{HasRoomBy, Suits, SuitsBy}
 use Rattle.world_state.specs.declared.place.Keeper.{Keeper}
 use Rattle.world_state.proofs.Inboxes.{still-new}
 use Rattle.world_state.proofs.place.Place.arrive.Goals as goal

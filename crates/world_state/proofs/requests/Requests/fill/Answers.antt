@@ -1,9 +1,8 @@
 use Rattle.std.proofs.Common.{◌≤◌, ◌+◌, ◌++◌, ◌∙◌, ℕ, List, arith, ap, drop, length, subst, sym}
 use Rattle.std.proofs.lemmas.List.{append-nil, drop_all}
-use Rattle.protocol_runs.specs.Requests.{request_messages}
+use Rattle.protocol_runs.specs.Prelude.{request_messages}
 use Rattle.sequencer.specs.declared.issued.Issued.{Issued}
-use Rattle.world_state.specs.Seated.{setups_in}
-use Rattle.world_state.specs.Requests.{HasRoomFor}
+use Rattle.world_state.specs.Prelude.{setups_in, HasRoomFor}
 use Rattle.world_state.proofs.Asking.{fewer, left-more, one-more}
 use Rattle.world_state.proofs.requests.Requests.fill.Goals as goal
 

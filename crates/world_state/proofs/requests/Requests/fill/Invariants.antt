@@ -1,7 +1,6 @@
 use Rattle.std.proofs.Common.{◌≡◌, ◌+◌, ◌++◌, drop, length}
-use Rattle.protocol_runs.specs.Requests.{request_messages}
-use Rattle.world_state.specs.Seated.{setups_in}
-use Rattle.world_state.specs.Requests.{HasRoomFor}
+use Rattle.protocol_runs.specs.Prelude.{request_messages}
+use Rattle.world_state.specs.Prelude.{setups_in, HasRoomFor}
 use Rattle.world_state.proofs.requests.Requests.fill.Given as goal
 
 -- the messages of the requests before this one are there, and there is room for the others

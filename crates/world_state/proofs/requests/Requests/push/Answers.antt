@@ -6,7 +6,7 @@ use Rattle.std.specs.declared.vec.Vec.{Vec}
 use Rattle.ruby_value.specs.declared.message.Delivery.{Delivery}
 use Rattle.ruby_value.specs.declared.message.Message.{Message}
 use Rattle.ruby_value.specs.declared.value.Value.{Value}
-use Rattle.world_state.specs.Requests.{IsFieldRoom}
+use Rattle.world_state.specs.Prelude.{IsFieldRoom}
 use Rattle.world_state.proofs.Asking.{at-seat, no-seat, number-more}
 use Rattle.world_state.proofs.requests.Requests.push.Goals as goal
 

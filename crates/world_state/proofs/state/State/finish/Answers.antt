@@ -1,7 +1,7 @@
 use Rattle.std.proofs.Common.{◌∙◌, ap}
-use Rattle.ctl_face.specs.Ctl.{Ctl}
+use Rattle.ctl_face.specs.Prelude.{Ctl}
 use Rattle.world_state.specs.declared.place.Kept.{Kept}
-use Rattle.world_state.specs.Ended.{ended}
+use Rattle.world_state.specs.Prelude.{ended}
 use Rattle.world_state.proofs.SameMade.{same-made}
 use Rattle.world_state.proofs.state.State.finish.Goals as goal
 

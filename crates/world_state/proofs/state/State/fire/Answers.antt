@@ -1,9 +1,8 @@
 use Rattle.std.proofs.Common.{List, sym, subst}
 use Rattle.ruby_value.specs.declared.message.Delivery.{Delivery}
 use Rattle.ruby_value.specs.declared.message.Message.{Message}
-use Rattle.ctl_store.specs.Kept.{ctl_of}
-use Rattle.ctl_store.specs.Sealed.{outcome_acts}
-use Rattle.world_state.specs.Arrivals.{CanArrive}
+use Rattle.ctl_store.specs.Prelude.{ctl_of, outcome_acts}
+use Rattle.world_state.specs.Prelude.{CanArrive}
 use Rattle.world_state.proofs.Rooms.{arrive-same}
 use Rattle.world_state.proofs.state.State.fire.Goals as goal
 

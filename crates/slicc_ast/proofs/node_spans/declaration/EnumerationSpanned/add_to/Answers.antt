@@ -1,5 +1,5 @@
 use Rattle.std.proofs.lemmas.Result.{on_ok_weaker}
-use Rattle.slicc_ast.specs.Spans.{symbol_spans}
+use Rattle.slicc_ast.specs.Prelude.{symbol_spans}
 use Rattle.slicc_ast.proofs.SpansOfLists.{added_declaration}
 use Rattle.slicc_ast.proofs.SpansOfParts.{symbol_list_spans}
 use Rattle.slicc_ast.proofs.node_spans.declaration.EnumerationSpanned.add_to.Goals as goal

@@ -1,5 +1,5 @@
 use Rattle.std.proofs.lemmas.Result.{on_ok_weaker}
-use Rattle.slicc_ast.specs.Spans.{state_spans}
+use Rattle.slicc_ast.specs.Prelude.{state_spans}
 use Rattle.slicc_ast.proofs.SpansOfLists.{added_declaration}
 use Rattle.slicc_ast.proofs.SpansOfParts.{state_list_spans}
 use Rattle.slicc_ast.proofs.node_spans.declaration.StatesSpanned.add_to.Goals as goal

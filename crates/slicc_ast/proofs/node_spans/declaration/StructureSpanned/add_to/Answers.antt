@@ -1,5 +1,5 @@
 use Rattle.std.proofs.lemmas.Result.{on_ok_weaker}
-use Rattle.slicc_ast.specs.Outline.{spans_of}
+use Rattle.slicc_ast.specs.Prelude.{spans_of}
 use Rattle.slicc_ast.specs.Declarations.{member}
 use Rattle.slicc_ast.proofs.SpansOfLists.{added_declaration}
 use Rattle.slicc_ast.proofs.SpansOfParts.{member_list_spans}

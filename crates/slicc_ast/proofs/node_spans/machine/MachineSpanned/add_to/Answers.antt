@@ -1,9 +1,8 @@
 use Rattle.std.proofs.Common.{rules, ◌≡◌, ◌∷◌, ◌++◌, subst, append-nil}
 use Rattle.std.specs.List.{flat_map}
 use Rattle.std.proofs.lemmas.Result.{on_ok_weaker}
-use Rattle.slicc_ast.specs.Declarations.{pair_list}
-use Rattle.slicc_ast.specs.Machines.{decl, machine, parameter}
-use Rattle.slicc_ast.specs.Outline.{spans_of, spans_in}
+use Rattle.slicc_ast.specs.Prelude.{pair_list, decl, spans_of, spans_in}
+use Rattle.slicc_ast.specs.Machines.{machine, parameter}
 use Rattle.slicc_ast.proofs.SpansOfParts.{type_spans, parameter_list_spans, decl_list_spans, added_machine}
 use Rattle.slicc_ast.proofs.node_spans.machine.MachineSpanned.add_to.Goals as goal
 

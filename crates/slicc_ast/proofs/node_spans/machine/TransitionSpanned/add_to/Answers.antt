@@ -2,9 +2,8 @@ use Rattle.std.proofs.Common.{rules, ◌≡◌, ◌∷◌, ◌++◌, ◌∙◌, 
 use Rattle.std.specs.List.{flat_map}
 use Rattle.std.proofs.lemmas.Result.{on_ok_weaker}
 use Rattle.slicc_ast.specs.declared.tree.name.Name.{Name}
-use Rattle.slicc_ast.specs.Declarations.{pair_list}
-use Rattle.slicc_ast.specs.Machines.{names, next_parts, transition}
-use Rattle.slicc_ast.specs.Outline.{none, spans_of, spans_in}
+use Rattle.slicc_ast.specs.Prelude.{pair_list, next_parts, none, spans_of, spans_in}
+use Rattle.slicc_ast.specs.Machines.{names, transition}
 use Rattle.slicc_ast.proofs.SpansOfParts.{names_behind, next_behind, action_list_spans, added_transition}
 use Rattle.slicc_ast.proofs.node_spans.machine.TransitionSpanned.add_to.Goals as goal
 

@@ -1,8 +1,0 @@
-use Rattle.std.proofs.Common.{◌≡◌, flat_map, take}
-use Rattle.slicc_plan.specs.BrokenBodies.{wrong_formal}
-use Rattle.slicc_plan.specs.Order.{first_of}
-use Rattle.body_rules.proofs.kinds.wrong_formals.Given as goal
-
-abbrev pub invariant-loop-f : goal.invariant-loop-f
-invariant-loop-f l =
-    l.first ≡ first_of (flat_map (wrong_formal l.m.scopes.now.trees.now l.m.lines.machine.now) (take l.f-index l.formals))

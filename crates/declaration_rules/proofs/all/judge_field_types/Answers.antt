@@ -1,7 +1,0 @@
-use Rattle.std.proofs.Common.{ap, ◌∙◌}
-use Rattle.slicc_plan.specs.Order.{first_after}
-use Rattle.declaration_rules.proofs.Passes.{refused_by_each}
-use Rattle.declaration_rules.proofs.all.judge_field_types.Goals as goal
-
-pub returns : goal.returns
-returns c = c.first_in_scopes.ensures ∙ ap (first_after c.args.first) (refused_by_each c.args.scopes.now.trees.now)

@@ -1,8 +1,0 @@
-use Rattle.std.proofs.Common.{◌≡◌, ◌∙◌, ap, sym}
-use Rattle.slicc_plan.specs.ExpressionTypes.{span_of}
-use Rattle.expression_types.proofs.Boxes.{span_of_Cast}
-use Rattle.expression_types.proofs.places.span_of.Goals as goal
-
-pub returns-in-Cast : goal.returns-in-Cast
-returns-in-Cast c =
-    sym (ap span_of c.in-Cast.is ∙ span_of_Cast c.in-Cast.target c.in-Cast.mode c.in-Cast.value c.in-Cast.span)

@@ -1,9 +1,0 @@
-use Rattle.std.proofs.Common.{◌≡◌, ◌++◌, flat_map, map, take}
-use Rattle.slicc_plan.specs.Buffers.{port_in}
-use Rattle.declared_types.specs.Lent.{declarations_of}
-use Rattle.machine_rules.specs.Ports.{port_seen}
-use Rattle.machine_rules.proofs.ports.add_ports.Given as goal
-
-abbrev pub invariant-loop-d : goal.invariant-loop-d
-invariant-loop-d l =
-    map port_seen l.list ≡ map port_seen l.initial.list ++ flat_map (port_in l.m.scopes.now.trees.now l.m.number l.m.machine.now) (declarations_of (take l.d-index l.d-items))

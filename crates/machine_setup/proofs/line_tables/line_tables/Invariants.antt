@@ -1,7 +1,0 @@
-use Rattle.std.proofs.Common.{◌≡◌, ◌++◌, drop}
-use Rattle.machine_setup.specs.BySymbols.{tables_by}
-use Rattle.machine_setup.proofs.line_tables.line_tables.Given as goal
-
-abbrev pub invariant-loop-number : goal.invariant-loop-number
-invariant-loop-number l =
-    l.tables ++ tables_by l.symbols l.own l.sizes l.number (drop l.number l.written) ≡ tables_by l.symbols l.own l.sizes 0 l.written

@@ -1,6 +1,0 @@
-use Rattle.std.proofs.Common.{◌≡◌, map, take}
-use Rattle.slicc_plan.specs.Declarations.{machines_of}
-use Rattle.machine_table.proofs.machine_list.machines.Given as goal
-
-abbrev pub invariant-loop-t : goal.invariant-loop-t
-invariant-loop-t l = map (λ m. m.now) l.found ≡ machines_of (take l.t-index l.trees)

@@ -1,8 +1,0 @@
-use Rattle.std.proofs.Common.{◌≡◌, ◌++◌, flat_map, map, take}
-use Rattle.slicc_plan.specs.SymbolsOfTypes.{enumeration_symbol}
-use Rattle.type_numbers.specs.Numbered.{scoped_of, trees_of}
-use Rattle.protocol_symbols.proofs.enumerations.add_enumerations.Given as goal
-
-abbrev pub invariant-loop-d : goal.invariant-loop-d
-invariant-loop-d l =
-    l.list ≡ l.initial.list ++ flat_map (enumeration_symbol (trees_of l.types)) (map scoped_of (take l.d-index l.declared))

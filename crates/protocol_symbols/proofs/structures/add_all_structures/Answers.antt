@@ -1,5 +1,0 @@
-use Rattle.std.proofs.Common.{rules, append_assoc}
-use Rattle.protocol_symbols.proofs.structures.add_all_structures.Goals as goal
-
-pub returns : goal.returns
-returns c = search (rules, append_assoc)

@@ -1,6 +1,0 @@
-use Rattle.std.proofs.Common.{◌≡◌, ◌++◌, drop}
-use Rattle.ruby_topology.specs.Topology.{members_from}
-use Rattle.ruby_topology.proofs.counts.members.Given as goal
-
-abbrev pub invariant-loop-machine : goal.invariant-loop-machine
-invariant-loop-machine l = l.members ++ members_from l.machine (drop l.machine l.counts) ≡ members_from 0 l.counts

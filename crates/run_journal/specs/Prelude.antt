@@ -1,0 +1,6 @@
+-- The definitions that other files name, from one place.
+pub use Rattle.run_journal.specs.AreFinals.{AreFinals}
+pub use Rattle.run_journal.specs.IsBefore.{IsBefore}
+pub use Rattle.run_journal.specs.LastState.{last_state, next_state}
+pub use Rattle.run_journal.specs.PartOf.{is_of, part_of}
+pub use Rattle.run_journal.specs.Tally.{tally}

@@ -1,0 +1,3 @@
+-- The definitions that other files name, from one place.
+pub use Rattle.scan_walk.specs.TriesAs.{IsEndOf, told}
+unfoldable pub use Rattle.scan_walk.specs.TriesAs.{TriesAs}

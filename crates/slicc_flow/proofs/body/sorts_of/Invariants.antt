@@ -1,6 +1,0 @@
-use Rattle.std.proofs.Common.{◌≡◌, take}
-use Rattle.slicc_flow.specs.Written.{sorted_by}
-use Rattle.slicc_flow.proofs.body.sorts_of.Given as goal
-
-abbrev pub invariant-loop-part : goal.invariant-loop-part
-invariant-loop-part l = l.sorts ≡ sorted_by (take l.part-index l.parts)

@@ -1,8 +1,0 @@
-use Rattle.std.proofs.Common.{◌≡◌, drop}
-use Rattle.slicc_plan.specs.CallsBetween.{circles_among, circles_from}
-use Rattle.slicc_plan.specs.Order.{first_after}
-use Rattle.slicc_flow.proofs.circle.circles.Given as goal
-
-abbrev pub invariant-loop-number : goal.invariant-loop-number
-invariant-loop-number l =
-    first_after l.initial.first (circles_among l.machine l.functions) ≡ first_after l.first (circles_from l.machine l.functions l.number (drop l.number l.functions))

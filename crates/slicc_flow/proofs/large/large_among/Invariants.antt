@@ -1,8 +1,0 @@
-use Rattle.std.proofs.Common.{◌≡◌, flat_map, take}
-use Rattle.slicc_plan.specs.BodySizes.{large_at}
-use Rattle.slicc_plan.specs.Order.{first_after}
-use Rattle.slicc_flow.proofs.large.large_among.Given as goal
-
-abbrev pub invariant-loop-b : goal.invariant-loop-b
-invariant-loop-b l =
-    l.first ≡ first_after l.initial.first (flat_map (large_at l.machine l.functions) (take l.b-index l.bodies))
