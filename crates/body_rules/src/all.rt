@@ -1,6 +1,6 @@
 //! The bodies of all machines, and the names in their transitions and states.
 ghost use Rattle.std.specs.Prelude.{◌≡◌, IfOk, flat_map};
-ghost use Rattle.slicc_plan.specs.Prelude.{broken_bodies, broken_in_machine, machines_of, first_after, first_of, wrong_names};
+ghost use Rattle.slicc_plan.specs.Prelude.{HasFewMachines, broken_bodies, broken_in_machine, machines_of, first_after, first_of, wrong_names};
 ghost use Rattle.declared_types.specs.Prelude.{scope_at};
 ghost use Rattle.body_rules.specs.Prelude.{broken_within, wrong_names_within};
 
@@ -44,6 +44,7 @@ fn judge_names(
     scopes: &Scopes<'_>,
     number: usize,
 ) -> Result<Option<Broken>, NoMemory>
+    requires { HasFewMachines scopes.now.trees.now }
     ensures { IfOk result (λ found. found ≡ first_after first (wrong_names_within scopes.now.trees.now (scope_at scopes.now.trees.now number))) }
 {
     match scopes.scope(number) {
@@ -61,6 +62,7 @@ fn wrong_names(
     first: Option<Broken>,
     scopes: &Scopes<'_>,
 ) -> Result<Option<Broken>, NoMemory>
+    requires { HasFewMachines scopes.now.trees.now }
     ensures { IfOk result (λ found. found ≡ first_after first (wrong_names scopes.now.trees.now)) }
 {
     let mut found = first;
@@ -73,6 +75,7 @@ fn wrong_names(
 /// The first rule of bodies that a protocol breaks, if it breaks any.
 #[tactic(auto, using(crate::proofs::Lists::lists_in_a_row))]
 pub fn broken_bodies(alloc: Global, scopes: &Scopes<'_>) -> Result<Option<Broken>, NoMemory>
+    requires { HasFewMachines scopes.now.trees.now }
     ensures { IfOk result (λ first. first ≡ first_of (broken_bodies scopes.now.trees.now)) }
 {
     let first = broken_in_machines(alloc, scopes)?;

@@ -1,7 +1,7 @@
 //! Names of states, events and actions in transitions, each of which the machine has to have; and the permissions of states.
 ghost use Rattle.std.specs.Prelude.{◌≡◌, [], ◌∷◌, flat_map, IfOk, Some};
 ghost use Rattle.slicc_plan.specs.Machines.{names_in};
-ghost use Rattle.slicc_plan.specs.Prelude.{transition_in, transitions_of, first_after, listed_name, missing_in, not_there, declared_in, wrong_permission};
+ghost use Rattle.slicc_plan.specs.Prelude.{HasFewParts, transition_in, transitions_of, first_after, listed_name, missing_in, not_there, declared_in, wrong_permission};
 ghost use Rattle.machine_table.specs.Prelude.{found_by};
 ghost use Rattle.body_rules.specs.Prelude.{missing_by, missing_with, wrong_states, wrong_state_of};
 ghost use Rattle.std.specs.Option.{option_map};
@@ -93,6 +93,7 @@ pub fn missing_names(
     first: Option<Broken>,
     m: &Machine,
 ) -> Result<Option<Broken>, NoMemory>
+    requires { HasFewParts m.now }
     ensures { IfOk result (λ found. found ≡ first_after first (flat_map (missing_in m.now) (transitions_of m.now))) }
 {
     let own = part_numbers(alloc, m)?;

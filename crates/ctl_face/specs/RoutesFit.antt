@@ -25,7 +25,11 @@ longest_path = 126000
 abbrev pub most_jitter : ℕ
 most_jitter = 1000
 
+abbrev pub most_controllers : ℕ
+most_controllers = 64
+
 pub record AreWithinLimits (routes : Routes) : Type 0 where
+  pub controllers : length routes.receiving ≤ most_controllers
   pub all_networks : length routes.ordered ≡ network_count
   pub paths : All (All (λ path. path ≤ longest_path)) routes.paths
   pub jitter : routes.jitter ≤ most_jitter
@@ -82,7 +86,7 @@ AreNumbered first free (r ∷ ranges) = (r.0 ≡ first) × (1 ≤ r.1) × AreNum
 pub record AreRanges (machines : List MachineSetup) (ranges : List (ℕ × ℕ)) (total : ℕ) : Type 0 where
   pub each_machine : length ranges ≡ length machines
   pub numbered : AreNumbered 0 total ranges
-  pub limit : total ≤ 64
+  pub limit : total ≤ most_controllers
 
 -- a table has as many rows, and each row as many items
 pub record HasShape {A : Type 0} (rows items : ℕ) (table : List (List A)) : Type 0 where

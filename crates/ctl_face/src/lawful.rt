@@ -155,7 +155,7 @@ fn are_within_limits(routes: &Routes) -> bool
     if !routes.paths.iter().all(|from| are_short(from)) {
         return false;
     }
-    routes.ordered.len() == 16 && routes.jitter <= 1000
+    routes.receiving.len() <= 64 && routes.ordered.len() == 16 && routes.jitter <= 1000
 }
 
 fn keeps_order(routes: &Routes, s: &BufferSetup) -> bool

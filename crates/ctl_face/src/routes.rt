@@ -14,8 +14,8 @@ pub struct Routes {
     /// By virtual network, of which there are 16, whether it keeps the order of what one controller sends to another. It
     /// does where the topology or a buffer on it says so; whoever makes the routes joins the two.
     pub ordered: Seq<bool>,
-    /// By controller and then virtual network, the number within its machine of the buffer that takes the messages of
-    /// that network, where it has one.
+    /// By controller, of which there are at most 64, and then virtual network, the number within its machine of the buffer
+    /// that takes the messages of that network, where it has one.
     pub receiving: Seq<Seq<Option<u16>>>,
 }
 

@@ -13,27 +13,24 @@ use ctl_face::{Fault, Routes, Trouble};
 use ruby_value::{BufferPlace, Fields, MachineSetup, NetDest, NoMemory, Value};
 
 // Whether each of the receivers has a buffer that takes the network's messages. A number that is no controller's has none.
-fn reaches_all(routes: &Routes, network: u16, members: &NetDest) -> Result<bool, NoMemory>
-    ensures value { IfOk result (λ all. all ≡ list_all (is_routed routes.now network) members.now) }
-    ensures next { IfOk result (λ all. all ≡ true → HaveNext members.now) }
+fn reaches_all(routes: &Routes, network: u16, members: &NetDest) -> bool
+    requires { AreWithinLimits routes.now }
+    ensures value { result ≡ list_all (is_routed routes.now network) members.now }
+    ensures next { result ≡ true → HaveNext members.now }
 {
     let controllers = routes.receiving.len();
-    if controllers > 0xffff_fffe {
-        // Memory doesn't hold the routes of so many.
-        return Err(NoMemory);
-    }
     let _count = members.count();
     if members.least_from(controllers as u32).is_some() {
-        return Ok(false);
+        return false;
     }
     let mut from = 0;
     while let Some(receiver) = members.least_from(from) {
         if routes.receiving_buffer(receiver, network).is_none() {
-            return Ok(false);
+            return false;
         }
         from = receiver + 1;
     }
-    Ok(true)
+    true
 }
 
 // The controllers that the fields name, if there is a field for them.
@@ -74,7 +71,7 @@ fn send_to_all(
     ensures changes { AreOf store.now (told_by changes.new) }
     ensures cycle { changes.new.cycle ≡ changes.old.cycle }
 {
-    if !reaches_all(routes, network, members)? {
+    if !reaches_all(routes, network, members) {
         return Err(Trouble::Fault(Fault::Route));
     }
     let count = members.count();

@@ -9,6 +9,6 @@ mod state_rules;
 mod wanted;
 
 pub use network_rules::networks;
-pub use parts::{machine_parts, shared_pairs};
+pub use parts::machine_parts;
 pub use ruby_base::NoMemory;
 pub use state_rules::state_functions;

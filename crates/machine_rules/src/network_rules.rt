@@ -1,7 +1,7 @@
 //! Two types of messages where there may be one, and two buffers from one network.
-ghost use Rattle.std.specs.Prelude.{◌≡◌, ◌++◌, [], ◌∷◌, IfOk, OnOk, cond, map};
+ghost use Rattle.std.specs.Prelude.{◌≡◌, ◌≤◌, ◌++◌, [], ◌∷◌, IfOk, OnOk, cond, length, map};
 ghost use Rattle.std.specs.List.{list_any};
-ghost use Rattle.slicc_plan.specs.Prelude.{are_from_one, buffer_in, buffers_of, differ, differing_after, doubled_after, doubled_in, is_one_network, is_one_own_buffer, is_own, all_ports, networks_broken, port_broken, wrong_networks, first_after};
+ghost use Rattle.slicc_plan.specs.Prelude.{are_from_one, buffer_in, buffers_of, differ, differing_after, doubled_after, doubled_in, is_one_network, is_one_own_buffer, is_own, all_ports, networks_broken, port_broken, wrong_networks, first_after, machines_of};
 ghost use Rattle.slicc_plan.specs.Buffers as plan;
 ghost use Rattle.declared_types.specs.Prelude.{declaration_of};
 ghost use Rattle.machine_table.specs.Prelude.{buffer_seen, place_seen, port_seen};
@@ -168,6 +168,7 @@ fn all_types(
     first: Option<Broken>,
     scopes: &Scopes<'_>,
 ) -> Result<Option<Broken>, NoMemory>
+    requires { length (machines_of scopes.now.trees.now) ≤ 16 }
     ensures { IfOk result (λ found. found ≡ first_after first (differing_after [] (all_ports scopes.now.trees.now))) }
 {
     let ports = all_ports(alloc, scopes)?;
@@ -180,6 +181,7 @@ pub fn networks(
     first: Option<Broken>,
     scopes: &Scopes<'_>,
 ) -> Result<Option<Broken>, NoMemory>
+    requires { length (machines_of scopes.now.trees.now) ≤ 16 }
     ensures { IfOk result (λ found. found ≡ first_after first (wrong_networks scopes.now.trees.now)) }
 {
     let typed = all_types(alloc, first, scopes)?;

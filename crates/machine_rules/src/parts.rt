@@ -1,9 +1,9 @@
-//! Machines, states and events that a protocol should have, and pairs with two transitions.
-ghost use Rattle.std.specs.Prelude.{◌≡◌, ◌++◌, ℕ, map, IfOk};
-ghost use Rattle.slicc_plan.specs.Prelude.{machines_of, missing_machine, missing_parts, missing_parts_in, in_each_from, first_after, shared_pairs};
+//! Machines, states and events that a protocol should have.
+ghost use Rattle.std.specs.Prelude.{◌≡◌, ◌≤◌, ◌++◌, length, map, IfOk};
+ghost use Rattle.slicc_plan.specs.Prelude.{machines_of, missing_machine, missing_parts, missing_parts_in, in_each_from, first_after};
 
 use declaration_rules::earlier_at;
-use machine_table::{event_count, kept_number, machines, state_count, tabulate};
+use machine_table::{event_count, machines, state_count};
 use ruby_base::NoMemory;
 use slicc_ast::tree::{Machine, Tree};
 use slicc_plan::{Broken, Rule, Span, earlier_broken};
@@ -47,14 +47,15 @@ fn missing_in(first: Option<Broken>, number: u16, m: &Machine) -> Option<Broken>
     first
 }
 
-fn missing_in_each(first: Option<Broken>, machines: &[&Machine]) -> Result<Option<Broken>, NoMemory>
-    ensures { IfOk result (λ found. found ≡ first_after first (in_each_from 0 missing_parts_in (map (λ m. m.now) machines.now))) }
+fn missing_in_each(first: Option<Broken>, machines: &[&Machine]) -> Option<Broken>
+    requires { length machines.now ≤ 16 }
+    ensures { result ≡ first_after first (in_each_from 0 missing_parts_in (map (λ m. m.now) machines.now)) }
 {
     let mut found = first;
     for (place, m) in machines.iter().enumerate() {
-        found = missing_in(found, kept_number(place)?, m);
+        found = missing_in(found, place as u16, m);
     }
-    Ok(found)
+    found
 }
 
 /// Of a protocol without a machine, of the machines without a state or an event, and of what was found before, the one that is
@@ -64,21 +65,10 @@ pub fn machine_parts(
     first: Option<Broken>,
     trees: &[Tree],
 ) -> Result<Option<Broken>, NoMemory>
+    requires { length (machines_of trees.now) ≤ 16 }
     ensures { IfOk result (λ found. found ≡ first_after first (missing_machine trees.now ++ missing_parts trees.now)) }
 {
     let machines = machines(alloc, trees)?;
     let found = missing_machine(first, trees, &machines);
-    missing_in_each(found, &machines)
-}
-
-/// Of the transitions that share a pair with an earlier one of their machine, and of what was found before, the one that is told.
-pub fn shared_pairs(
-    alloc: Global,
-    first: Option<Broken>,
-    trees: &[Tree],
-) -> Result<Option<Broken>, NoMemory>
-    ensures { IfOk result (λ found. found ≡ first_after first (shared_pairs trees.now)) }
-{
-    let (found, _) = tabulate(alloc, first, trees)?;
-    Ok(found)
+    Ok(missing_in_each(found, &machines))
 }

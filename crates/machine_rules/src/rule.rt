@@ -1,14 +1,13 @@
 //! A machine of a protocol, and the rules that each machine keeps or breaks alone.
-ghost use Rattle.std.specs.Prelude.{◌≡◌, Option, List, ℕ, IfOk};
+ghost use Rattle.std.specs.Prelude.{◌≡◌, ◌≤◌, Option, List, ℕ, length, IfOk};
 ghost use Rattle.slicc_ast.specs.declared.tree.item.Tree.{Tree};
 ghost use Rattle.slicc_ast.specs.declared.tree.machine.Machine.{Machine};
 ghost use Rattle.slicc_plan.specs.declared.broken.Broken.{Broken};
-ghost use Rattle.slicc_plan.specs.Prelude.{in_each, first_after};
+ghost use Rattle.slicc_plan.specs.Prelude.{in_each, machines_of, first_after};
 ghost use Rattle.declared_types.specs.Prelude.{scope_at};
 ghost use Rattle.machine_rules.specs.MachinesIn.{IsMachineIn, found_within};
 
 use declared_types::{Scope, Scopes};
-use machine_table::kept_number;
 use ruby_base::NoMemory;
 use slicc_ast::tree::Machine;
 use slicc_plan::Broken;
@@ -69,12 +68,12 @@ pub fn first_in_machines<R: MachineRule>(
     first: Option<Broken>,
     scopes: &Scopes<'_>,
 ) -> Result<Option<Broken>, NoMemory>
+    requires { length (machines_of scopes.now.trees.now) ≤ 16 }
     ensures { IfOk result (λ found. found ≡ first_after first (in_each (R.found_in scopes.now.trees.now) scopes.now.trees.now)) }
 {
     let mut found = first;
     for scope in 1..scopes.len() {
-        let number = kept_number(scope - 1)?;
-        found = first_in_scope::<R>(alloc, found, scopes, scope, number)?;
+        found = first_in_scope::<R>(alloc, found, scopes, scope, (scope - 1) as u16)?;
     }
     Ok(found)
 }

@@ -1,9 +1,9 @@
 //! The functions that read and write a line's state, and that which permits accesses to it.
-ghost use Rattle.std.specs.Prelude.{◌≡◌, ◌++◌, IfOk, [], ◌∷◌};
+ghost use Rattle.std.specs.Prelude.{◌≡◌, ◌≤◌, ◌++◌, IfOk, [], ◌∷◌, length};
 ghost use Rattle.std.specs.Option.{option_copied, option_map};
 ghost use Rattle.slicc_plan.specs.declared.built_in.BuiltInType.TheVariants.{Void};
 ghost use Rattle.slicc_plan.specs.Buffers.{listed};
-ghost use Rattle.slicc_plan.specs.Prelude.{entry_structure, function_found, function_named, tbe_structure, first_after, alone, line_where, own_state, state_functions_in, taken_to_permit, taken_to_read, taken_to_write, told_at, unlike, wrong_state_functions};
+ghost use Rattle.slicc_plan.specs.Prelude.{entry_structure, function_found, function_named, tbe_structure, first_after, alone, line_where, own_state, state_functions_in, taken_to_permit, taken_to_read, taken_to_write, told_at, unlike, wrong_state_functions, machines_of};
 ghost use Rattle.slicc_plan.specs.StateFunctions.{built_in_type};
 ghost use Rattle.declared_types.specs.Prelude.{declaration_of};
 ghost use Rattle.machine_rules.specs.MachinesIn.{IsMachineIn};
@@ -207,6 +207,7 @@ pub fn state_functions(
     first: Option<Broken>,
     scopes: &Scopes<'_>,
 ) -> Result<Option<Broken>, NoMemory>
+    requires { length (machines_of scopes.now.trees.now) ≤ 16 }
     ensures { IfOk result (λ found. found ≡ first_after first (wrong_state_functions scopes.now.trees.now)) }
 {
     first_in_machines::<StateFunctions>(alloc, first, scopes)

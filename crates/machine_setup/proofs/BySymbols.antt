@@ -23,7 +23,7 @@ use Rattle.slicc_ast.specs.declared.tree.declaration.Structure.{Structure}
 use Rattle.slicc_ast.specs.declared.tree.item.Tree.{Tree}
 use Rattle.slicc_ast.specs.declared.tree.machine.Machine.{Machine}
 use Rattle.slicc_plan.specs.declared.built_in.BuiltInType.TheVariants.{Request}
-use Rattle.slicc_plan.specs.Prelude.{IsAccepted, BufferIn, buffer_in, Declaration, states, parameter, object, Scope, within, global_declarations, is_external, machine_declarations, machines_of, FieldIn, field_kind, field_kinds, initial_fields, initial_value, message_kinds, is_sequencer, is_states, is_directory_entry, is_entry, is_tbe, own_structures, structure_in, values_of, attributes_of, buffer_place, buffer_setups, default_state, first_state, is_ordered, kinds_on, parameter_table, range_values, setup_in, setup_of, table_of_lines, table_setup, table_size, tables_from, values_from, symbols_of, buffer_of_place, buffer_symbol, line_number, machine_symbols, number_of_found, sequencer_in, table_of_sort, table_symbol, enumeration_symbols, field_of_type, field_symbol, field_symbols, request_symbol, structure_symbol, structure_symbols, line_structure, table_in, declared_structures, made_in, no_structure, own_default, scoped_declarations, structure_number, KnownType, built_in, enumerated, structured}
+use Rattle.slicc_plan.specs.Prelude.{IsAccepted, BufferIn, buffer_in, Declaration, states, parameter, object, Scope, within, global_declarations, is_external, machine_declarations, machines_of, FieldIn, field_kind, field_kinds, initial_fields, initial_value, message_kinds, is_sequencer, is_states, is_directory_entry, is_entry, is_tbe, own_structures, structure_in, values_of, attributes_of, buffer_place, default_state, first_state, is_ordered, kinds_on, parameter_table, setup_in, setup_of, table_of_lines, table_setup, table_size, tables_from, values_from, symbols_of, buffer_of_place, buffer_symbol, line_number, machine_symbols, number_of_found, sequencer_in, table_of_sort, table_symbol, enumeration_symbols, field_of_type, field_symbol, field_symbols, request_symbol, structure_symbol, structure_symbols, line_structure, table_in, declared_structures, made_in, no_structure, own_default, scoped_declarations, structure_number, KnownType, built_in, enumerated, structured}
 use Rattle.slicc_plan.specs.Declarations.{structure}
 use Rattle.slicc_plan.specs.FieldTypes.{field_of}
 use Rattle.slicc_plan.specs.MessageTypes.{message_type}

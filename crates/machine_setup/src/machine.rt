@@ -1,5 +1,5 @@
 //! What a machine of a protocol is to its controllers: its tables of lines with their sizes, and the table of its values.
-ghost use Rattle.std.specs.Prelude.{◌≡◌, ◌++◌, [], ◌∷◌, IfOk, slice_get, ◌+◌, OnOk, length, ◌==◌, ℕ, find};
+ghost use Rattle.std.specs.Prelude.{◌≡◌, ◌++◌, [], ◌∷◌, IfOk, slice_get, ◌+◌, ◌≤◌, OnOk, length, ◌==◌, ℕ, find};
 ghost use Rattle.slicc_plan.specs.Prelude.{setup_of, cache_size, table_size, tbe_size};
 ghost use Rattle.machine_setup.specs.Prelude.{default_of, default_state_by, setup_by, tables_by, values_by, kinds_of_ranges, values_of_ranges, line_of, table_by};
 
@@ -7,7 +7,7 @@ use crate::fields::{buffers, fields_at, first_values, kinds_of, opening_values};
 use ruby_base::{NoMemory, Seq};
 use ruby_symbols::{MachineSymbols, Symbols, TableSort, TableSymbol};
 use ruby_value::{Fields, Kind, MachineSetup, Sizes, TableSetup, TableSize, Value};
-use slicc_plan::Plan;
+use slicc_plan::{Plan, machines_are_few, types_have_numbers};
 use std::alloc::Global;
 
 // The default member of the enumeration of this number.
@@ -37,6 +37,7 @@ fn all_tables(
     own: &MachineSymbols,
     sizes: &Sizes,
 ) -> Result<Seq<TableSetup>, NoMemory>
+    requires { length symbols.now.structures + number ≤ 65535 }
     ensures { IfOk result (λ tables. tables ≡ tables_by symbols.now own.now sizes.now 0 own.now.tables ++ values_by symbols.now number own.now sizes.now ∷ []) }
 {
     let mut tables = line_tables(alloc, symbols, own, sizes)?;
@@ -51,6 +52,7 @@ fn setup_by(
     own: &MachineSymbols,
     sizes: &Sizes,
 ) -> Result<MachineSetup, NoMemory>
+    requires { length symbols.now.structures + number ≤ 65535 }
     ensures { IfOk result (λ setup. setup ≡ setup_by symbols.now number own.now sizes.now) }
 {
     Ok(MachineSetup {
@@ -72,6 +74,8 @@ pub fn setup(
     ensures { IfOk result (λ setup. setup ≡ setup_of plan.now machine sizes.now) }
 {
     let _accepted = plan.trees();
+    machines_are_few();
+    types_have_numbers();
     let symbols = plan.symbols();
     match symbols.machines.get(machine as usize) {
         None => Ok(None),
@@ -97,15 +101,12 @@ fn add_ranges(
     Ok(())
 }
 
-// The number of what the values of the machine of this number are kept in. A protocol has few structures and machines.
-fn structure_of(symbols: &Symbols, machine: u16) -> Result<u16, NoMemory>
-    ensures { IfOk result (λ number. number ≡ length symbols.now.structures + machine) }
+// The number of what the values of the machine of this number are kept in.
+fn structure_of(symbols: &Symbols, machine: u16) -> u16
+    requires { length symbols.now.structures + machine ≤ 65535 }
+    ensures { result ≡ length symbols.now.structures + machine }
 {
-    let structures = symbols.structures.len();
-    if structures > (u16::MAX - machine) as usize {
-        return Err(NoMemory);
-    }
-    Ok(structures as u16 + machine)
+    symbols.structures.len() as u16 + machine
 }
 
 /// The table of the values of the machine of this number.
@@ -116,9 +117,10 @@ pub fn parameter_table(
     own: &MachineSymbols,
     sizes: &Sizes,
 ) -> Result<TableSetup, NoMemory>
+    requires { length symbols.now.structures + number ≤ 65535 }
     ensures { IfOk result (λ table. table ≡ values_by symbols.now number own.now sizes.now) }
 {
-    let structure = structure_of(symbols, number)?;
+    let structure = structure_of(symbols, number);
     let mut kinds = kinds_of(alloc, &own.values)?;
     let mut values = opening_values(alloc, sizes, &own.values)?;
     add_ranges(&mut kinds, &mut values, &sizes.machines)?;

@@ -3,4 +3,3 @@ mod Behind
 mod NumbersOfNames
 mod AmongParts
 pub mod TablesOfMachines
-mod Summing

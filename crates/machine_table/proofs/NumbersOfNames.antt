@@ -135,6 +135,17 @@ actions_step ds i d below is =
     ∙ filter-append is_action (flat_map named_declarations (take i ds)) (flat_map named_declarations (d ∷ []))
     ∙ ap (λ xs. actions_among (take i ds) ++ filter is_action xs) (append-nil (named_declarations d))
 
+pub fewer_among : (ds : List Decl) (i : ℕ) → length (actions_among (take i ds)) ≤ length (actions_among ds)
+fewer_among [] zero = omega arith
+fewer_among [] (suc i) = omega arith
+fewer_among (d ∷ ds) zero = omega arith
+fewer_among (d ∷ ds) (suc i) = omega (arith, one (take i ds), one ds, fewer_among ds i)
+  where
+    one : (xs : List Decl) → length (actions_among (d ∷ xs)) ≡ length (filter is_action (named_declarations d)) + length (actions_among xs)
+    one xs =
+        ap length (filter-append is_action (named_declarations d) (flat_map named_declarations xs))
+        ∙ length-append (filter is_action (named_declarations d)) (actions_among xs)
+
 no_action : (d : Decl) → ((a : Action) → d ≡ ActionDecl a → ⊥) → filter is_action (named_declarations d) ≡ []
 no_action (States s) h = refl
 no_action (Enumeration e) h = refl

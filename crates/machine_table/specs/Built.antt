@@ -1,5 +1,5 @@
 -- What may be answered where the tables of a protocol are asked for.
-use Rattle.std.specs.Prelude.{◌≡◌, Result, Ok, Err, Option, List, [], unwrap_or}
+use Rattle.std.specs.Prelude.{◌≡◌, Result, Ok, Err, List, [], unwrap_or}
 use Rattle.slicc_ast.specs.declared.tree.item.Tree.{Tree}
 use Rattle.slicc_plan.specs.declared.broken.Broken.{Broken}
 use Rattle.slicc_plan.specs.Prelude.{IsFirstBroken, shared_pairs}

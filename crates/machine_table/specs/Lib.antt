@@ -2,6 +2,5 @@ pub mod Answers
 pub mod Built
 pub mod Found
 pub mod Ports
-pub mod Sums
 pub mod TablesOf
 pub mod Prelude

@@ -1,5 +1,5 @@
 //! Numbers by names.
-ghost use Rattle.std.specs.Prelude.{◌≡◌, length, IfOk};
+ghost use Rattle.std.specs.Prelude.{◌≡◌, length};
 
 use ruby_base::{NameIndex, NoMemory, Seq};
 use std::alloc::Global;
@@ -20,17 +20,6 @@ impl Drop for Numbers {
             numbers: _,
         } = self;
     }
-}
-
-/// The number as one that tables keep. They have no room for more than 65,536 states, events or actions of a machine, which are
-/// more than a protocol may have.
-pub fn kept_number(number: usize) -> Result<u16, NoMemory>
-    ensures { IfOk result (λ kept. kept ≡ number) }
-{
-    if number > u16::MAX as usize {
-        return Err(NoMemory);
-    }
-    Ok(number as u16)
 }
 
 impl Numbers {
@@ -57,10 +46,9 @@ impl Numbers {
     }
 
     /// Gives a name its number, if it has none yet.
-    pub fn add(&mut self, name: &[u8], number: usize) -> Result<(), NoMemory>
+    pub fn add(&mut self, name: &[u8], number: u16) -> Result<(), NoMemory>
         ensures { OnOk result (IsFoundWith self.old name.now number self.new) }
     {
-        let number = kept_number(number)?;
         if self.names.find(name).is_some() {
             return Ok(());
         }

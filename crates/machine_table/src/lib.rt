@@ -3,7 +3,6 @@
 #![tactic(auto)]
 
 mod by_name;
-mod counting;
 mod making;
 mod numbers;
 mod parts;
@@ -11,9 +10,8 @@ mod ports;
 mod table;
 mod written;
 
-pub use by_name::{Numbers, kept_number};
-pub use counting::counts;
-pub use making::{build, build_of_trees, tabulate};
+pub use by_name::Numbers;
+pub use making::{all_written, build, build_of_trees, tables_of};
 pub use numbers::{PartNumbers, part_numbers};
 pub use parts::{event_count, events, machines, state_count, states};
 pub use ports::{
@@ -21,4 +19,3 @@ pub use ports::{
 };
 pub use ruby_base::{NoMemory, Seq};
 pub use table::{TableFault, Tables};
-pub use written::written_transitions;

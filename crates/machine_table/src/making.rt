@@ -1,81 +1,112 @@
-//! The tables of a protocol, made from its trees.
-ghost use Rattle.std.specs.Prelude.{◌≡◌, [], None, map, IfOk};
-ghost use Rattle.slicc_plan.specs.Prelude.{in_each_from, written_of, first_after, shared_pairs, shared_pairs_in};
+//! The written transitions of a protocol's machines, and the tables that are made of them.
+ghost use Rattle.std.specs.Prelude.{◌≡◌, ◌≤◌, ℕ, [], All, length, map, slice_get, IfOk};
+ghost use Rattle.slicc_plan.specs.Buffers.{listed};
+ghost use Rattle.slicc_plan.specs.Prelude.{HasFewMachines, HasFewParts, in_each_from, machines_of, written_of, first_after, shared_pairs, shared_pairs_in};
 ghost use Rattle.pair_table.specs.Prelude.{IsTableOf};
-ghost use Rattle.machine_table.specs.Prelude.{AreRightUnlessShared, answer, AreTablesOf, IsBuilt};
+ghost use Rattle.machine_table.specs.Prelude.{answer, rows_of_found, AreTablesOf, IsBuilt};
 
-use crate::by_name::kept_number;
 use crate::parts::{event_count, machines, state_count};
 use crate::table::{TableFault, Tables};
 use crate::written::written_transitions;
-use pair_table::{Table, table_of};
+use pair_table::{Table, shared_of, table_of};
 use ruby_base::{NoMemory, Seq};
 use slicc_ast::tree::{Machine, Tree};
-use slicc_plan::{Broken, Plan};
+use slicc_plan::{Broken, Plan, Written};
 use std::alloc::Global;
 
-// The table of the machine of this number.
-fn machine_table(
+// The written transitions of the machine of this number.
+fn written_in(
     alloc: Global,
     first: Option<Broken>,
     number: u16,
     m: &Machine,
-) -> Result<(Option<Broken>, Table), NoMemory>
+) -> Result<(Option<Broken>, Seq<Written>), NoMemory>
+    requires { HasFewParts m.now }
     ensures first { IfOk result (λ r. r.0 ≡ first_after first (shared_pairs_in number m.now)) }
-    ensures rows { IfOk result (λ r. shared_pairs_in number m.now ≡ [] → IsTableOf (written_of m.now) r.1) }
+    ensures written { IfOk result (λ r. r.1 ≡ written_of m.now) }
 {
     let ws = written_transitions(alloc, m)?;
-    let states = state_count(m);
-    let events = event_count(m);
-    if states > 65536 || events > 65536 || ws.len() > u32::MAX as usize {
-        return Err(NoMemory);
-    }
-    table_of(alloc, first, number, &ws, states, events)
+    let found = shared_of(alloc, first, number, &ws, state_count(m), event_count(m))?;
+    Ok((found, ws))
 }
 
-fn tables_of(
+fn written_among(
     alloc: Global,
     first: Option<Broken>,
     machines: &[&Machine],
-) -> Result<(Option<Broken>, Tables), NoMemory>
+) -> Result<(Option<Broken>, Seq<Seq<Written>>), NoMemory>
+    requires few { length machines.now ≤ 16 }
+    requires parts { All HasFewParts (map (λ m. m.now) machines.now) }
     ensures first { IfOk result (λ r. r.0 ≡ first_after first (in_each_from 0 shared_pairs_in (map (λ m. m.now) machines.now))) }
-    ensures tables { IfOk result (λ r. AreRightUnlessShared (map (λ m. m.now) machines.now) r.1) }
+    ensures written { IfOk result (λ r. r.1 ≡ map written_of (map (λ m. m.now) machines.now)) }
 {
     let mut found = first;
-    let mut tables = Seq::new(alloc);
+    let mut all = Seq::new(alloc);
     for (place, m) in machines.iter().enumerate() {
-        let number = kept_number(place)?;
-        let (next, table) = machine_table(alloc, found, number, m)?;
+        let (next, ws) = written_in(alloc, found, place as u16, m)?;
         found = next;
-        tables.push(table)?;
+        all.push(ws)?;
     }
-    Ok((found, Tables { machines: tables }))
+    Ok((found, all))
 }
 
-/// The tables of a protocol's machines, and of the pairs that have two written transitions and of what was found before the one
-/// that is told. The tables are right where no pair has two.
-pub fn tabulate(
+/// The written transitions of a protocol, machine by machine, and of those that share a pair with an earlier one of their machine,
+/// and of what was found before, the one that is told.
+pub fn all_written(
     alloc: Global,
     first: Option<Broken>,
     trees: &[Tree],
-) -> Result<(Option<Broken>, Tables), NoMemory>
+) -> Result<(Option<Broken>, Seq<Seq<Written>>), NoMemory>
+    requires { HasFewMachines trees.now }
     ensures first { IfOk result (λ r. r.0 ≡ first_after first (shared_pairs trees.now)) }
-    ensures tables { IfOk result (λ r. shared_pairs trees.now ≡ [] → AreTablesOf trees.now (answer r.1)) }
+    ensures written { IfOk result (λ r. r.1 ≡ map written_of (machines_of trees.now)) }
 {
     let machines = machines(alloc, trees)?;
-    tables_of(alloc, first, &machines)
+    written_among(alloc, first, &machines)
+}
+
+fn machine_table(alloc: Global, m: &Machine) -> Result<Table, NoMemory>
+    requires few { HasFewParts m.now }
+    requires alone { (number : ℕ) × (shared_pairs_in number m.now ≡ []) }
+    ensures { IfOk result (IsTableOf (written_of m.now)) }
+{
+    let ws = written_transitions(alloc, m)?;
+    table_of(alloc, &ws, state_count(m), event_count(m))
+}
+
+fn tables_among(alloc: Global, machines: &[&Machine]) -> Result<Tables, NoMemory>
+    requires parts { All HasFewParts (map (λ m. m.now) machines.now) }
+    requires alone { in_each_from 0 shared_pairs_in (map (λ m. m.now) machines.now) ≡ [] }
+    ensures { IfOk result (λ t. (n s e : ℕ) → rows_of_found (slice_get (map (λ m. m.now) machines.now) n) s e ≡ listed (answer t n s e)) }
+{
+    let mut tables = Seq::new(alloc);
+    for m in machines {
+        tables.push(machine_table(alloc, m)?)?;
+    }
+    Ok(Tables { machines: tables })
+}
+
+/// The tables of a protocol's machines, in none of which a pair has two transitions.
+pub fn tables_of(alloc: Global, trees: &[Tree]) -> Result<Tables, NoMemory>
+    requires few { HasFewMachines trees.now }
+    requires alone { shared_pairs trees.now ≡ [] }
+    ensures { IfOk result (λ t. AreTablesOf trees.now (answer t)) }
+{
+    let machines = machines(alloc, trees)?;
+    tables_among(alloc, &machines)
 }
 
 /// The tables of the machines of a protocol with these trees. `Duplicate` comes exactly where a state and an event of a machine have
 /// two written transitions, with the first such second one, in the order of machines and of the text, and the earliest that has a
 /// pair with it.
 pub fn build_of_trees(alloc: Global, trees: &[Tree]) -> Result<Tables, TableFault>
+    requires { HasFewMachines trees.now }
     ensures { IsBuilt trees.now result }
 {
-    match tabulate(alloc, None, trees) {
-        Err(NoMemory) => Err(TableFault::NoMemory),
-        Ok((None, tables)) => Ok(tables),
-        Ok((Some(b), _)) => Err(TableFault::Duplicate {
+    let (found, _) = all_written(alloc, None, trees)?;
+    match found {
+        None => Ok(tables_of(alloc, trees)?),
+        Some(b) => Err(TableFault::Duplicate {
             first: b.other.unwrap_or(b.place),
             second: b.place,
         }),
@@ -86,5 +117,5 @@ pub fn build_of_trees(alloc: Global, trees: &[Tree]) -> Result<Tables, TableFaul
 pub fn build(alloc: Global, plan: &Plan) -> Result<Tables, TableFault>
     ensures { IsBuilt plan.now result }
 {
-    build_of_trees(alloc, plan.trees())
+    Ok(tables_of(alloc, plan.trees())?)
 }

@@ -1,13 +1,12 @@
 //! The buffers of a machine, and the ports of all machines.
-ghost use Rattle.std.specs.Prelude.{◌≡◌, ◌++◌, IfOk, OnOk, flat_map, map};
+ghost use Rattle.std.specs.Prelude.{◌≡◌, ◌≤◌, ◌++◌, IfOk, OnOk, flat_map, length, map};
 ghost use Rattle.std.specs.Option.{option_map};
 ghost use Rattle.slicc_plan.specs.Buffers.{listed, port_in};
-ghost use Rattle.slicc_plan.specs.Prelude.{buffer_named, is_destination, port_on, ports_of, within, all_ports, all_ports_from, type_in, buffer_in, buffer_of, is_mandatory, place_by, virtual_network, is_built_in};
+ghost use Rattle.slicc_plan.specs.Prelude.{buffer_named, is_destination, port_on, ports_of, within, all_ports, all_ports_from, type_in, buffer_in, buffer_of, is_mandatory, place_by, virtual_network, is_built_in, machines_of};
 ghost use Rattle.declared_types.specs.Prelude.{declaration_of, declarations_of, scope_of, type_of};
 ghost use Rattle.machine_table.specs.Ports.{buffer_seen, port_seen, place_seen};
 ghost use Rattle.slicc_plan.specs.declared.built_in.BuiltInType.TheVariants.{Buffer};
 
-use crate::by_name::kept_number;
 use crate::parts::machines;
 use declaration_rules::{is_built_in, number_value};
 use declared_types::{
@@ -227,18 +226,19 @@ fn ports_among<'a>(
     scopes: &Scopes<'a>,
     machines: &[&'a Machine],
 ) -> Result<Seq<PortOn<'a>>, NoMemory>
+    requires { length machines.now ≤ 16 }
     ensures { IfOk result (λ list. map port_seen list ≡ all_ports_from scopes.now.trees.now 0 (map (λ m. m.now) machines.now)) }
 {
     let mut list = Seq::new(alloc);
     for (number, m) in machines.iter().enumerate() {
-        let kept = kept_number(number)?;
-        add_ports_of(alloc, &mut list, scopes, kept, m)?;
+        add_ports_of(alloc, &mut list, scopes, number as u16, m)?;
     }
     Ok(list)
 }
 
 /// The ports of all machines, in the order of reading and of the text.
 pub fn all_ports<'a>(alloc: Global, scopes: &Scopes<'a>) -> Result<Seq<PortOn<'a>>, NoMemory>
+    requires { length (machines_of scopes.now.trees.now) ≤ 16 }
     ensures { IfOk result (λ list. map port_seen list ≡ all_ports scopes.now.trees.now) }
 {
     let machines = machines(alloc, scopes.trees)?;

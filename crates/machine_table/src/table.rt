@@ -2,7 +2,7 @@
 ghost use Rattle.std.specs.Prelude.{◌≡◌};
 
 use pair_table::Table;
-use ruby_base::Seq;
+use ruby_base::{NoMemory, Seq};
 use slicc_plan::{Row, Span};
 
 /// The tables of a protocol's machines.
@@ -21,6 +21,16 @@ pub enum TableFault {
         second: Span,
     },
     NoMemory,
+}
+
+impl From<NoMemory> for TableFault {
+    ghost use Rattle.machine_table.specs.declared.table.TableFault.{TableFault};
+
+    ghost from_gives = { λ _ fault. fault ≡ TableFault.NoMemory };
+
+    fn from(_: NoMemory) -> TableFault {
+        TableFault::NoMemory
+    }
 }
 
 impl Tables {

@@ -1,8 +1,8 @@
 //! The written transitions of a machine, their names as numbers.
-ghost use Rattle.std.specs.Prelude.{◌≡◌, ◌++◌, filter_map, map, IfOk, OnOk};
+ghost use Rattle.std.specs.Prelude.{◌≡◌, ◌<◌, ◌^◌, ◌++◌, filter_map, length, map, IfOk, OnOk};
 ghost use Rattle.slicc_plan.specs.Buffers.{listed};
 ghost use Rattle.slicc_plan.specs.Machines.{names_in};
-ghost use Rattle.slicc_plan.specs.Prelude.{each_once, includes, transitions_of, with_number, written_of};
+ghost use Rattle.slicc_plan.specs.Prelude.{HasFewParts, each_once, includes, transitions_of, with_number, written_of};
 ghost use Rattle.machine_table.specs.Prelude.{found_by, found_name, found_next, written_with};
 
 use crate::by_name::Numbers;
@@ -121,10 +121,17 @@ fn written_by_parts(
     Ok(ws)
 }
 
-/// The written transitions of a machine, in the order of the text.
+/// The written transitions of a machine, in the order of the text. No rule says how many there may be, but memory holds no more
+/// than numbers of 32 bits do.
 pub fn written_transitions(alloc: Global, m: &Machine) -> Result<Seq<Written>, NoMemory>
-    ensures { IfOk result (λ ws. ws ≡ written_of m.now) }
+    requires { HasFewParts m.now }
+    ensures written { IfOk result (λ ws. ws ≡ written_of m.now) }
+    ensures few { IfOk result (λ ws. length ws < 2 ^ 32) }
 {
     let parts = part_numbers(alloc, m)?;
-    written_by_parts(alloc, m, &parts)
+    let ws = written_by_parts(alloc, m, &parts)?;
+    if ws.len() > u32::MAX as usize {
+        return Err(NoMemory);
+    }
+    Ok(ws)
 }

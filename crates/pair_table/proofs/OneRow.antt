@@ -1,66 +1,21 @@
 -- Where no transitions share a pair, what is at a pair's place is the one row that is written for it.
-use Rattle.std.proofs.Common.{◌≡◌, ℕ, zero, suc, ◌+◌, ◌*◌, ◌/◌, ◌%◌, ◌<◌, ◌≤◌, ◌==◌, Bool, true, false, cond, not, ◌||◌, ◌&&◌, Option, None, Some, List, [], ◌∷◌, ◌++◌, All, find, length, slice_get, slice_index, slice_index_or, nat_lt, refl, sym, ap, subst, ◌∙◌, arith, add-zero, zero-add}
+use Rattle.std.proofs.Common.{◌≡◌, ℕ, zero, suc, ◌+◌, ◌*◌, ◌/◌, ◌%◌, ◌<◌, ◌≤◌, ◌==◌, Bool, true, false, cond, not, ◌||◌, ◌&&◌, None, Some, List, [], ◌∷◌, ◌++◌, All, find, length, slice_get, slice_index, slice_index_or, nat_lt, refl, sym, ap, subst, ◌∙◌, arith, add-zero, zero-add}
 use Rattle.std.specs.List.{list_any, position_or_len}
 use Rattle.std.specs.Option.{option_map}
-use Rattle.std.proofs.lemmas.List.Folds.{list_any-append}
 use Rattle.std.proofs.lemmas.Nat.{div-mul-add, mod-mul-add, mul-add-lt}
 use Rattle.std.proofs.Math.Nat.{mul_comm, mul-le-mul_right}
-use Rattle.std.proofs.lemmas.Grind.{common_steps}
-use Rattle.slicc_plan.specs.declared.broken.Broken.{Broken}
-use Rattle.slicc_plan.specs.declared.row.Row.{Row}
 use Rattle.slicc_plan.specs.declared.row.Written.{Written}
 use Rattle.slicc_plan.specs.Buffers.{listed}
 use Rattle.slicc_plan.specs.Machines.{is_for, row_of, rows_from}
 use Rattle.slicc_plan.specs.Prelude.{includes, share_pair, shared_after}
 use Rattle.slicc_plan.specs.TwoTransitions.{told_with}
+use Rattle.slicc_plan.proofs.TwoTransitions.{unshared, written_before}
 use Rattle.pair_table.specs.Prelude.{IsAmong, first_at, is_at, row_at, rows_at, answer_at, inner}
 use Rattle.pair_table.proofs.Lists.{first_congr}
 use Rattle.pair_table.proofs.FirstPlaces.{at_pair}
 use Rattle.pair_table.proofs.RowsOfPlaces.{rows_at-get}
 
-or_true : (b : Bool) → (b || true) ≡ true
-or_true true = refl
-or_true false = refl
-
-any_at : (xs : List ℕ) (k : ℕ) (p : ℕ → Bool) → includes xs k ≡ true → p k ≡ true → list_any p xs ≡ true
-any_at [] k p h e = cc
-any_at (x ∷ xs) k p h e = by (λ g. any_at xs k p g e) (x == k) refl h
-  where
-    by : (includes xs k ≡ true → list_any p xs ≡ true) → (b : Bool) → b ≡ (x == k) → (b || includes xs k) ≡ true → (p x || list_any p xs) ≡ true
-    by more true is g =
-        let same : x ≡ k = grind arith in
-        let here : p x ≡ true = ap p same ∙ e in
-        rw here refl
-    by more false is g = ap (λ b. p x || b) (more g) ∙ or_true (p x)
-
-both_true : (a b : Bool) → (a && b) ≡ true → (a ≡ true) × (b ≡ true)
-both_true true b h = (refl, h)
-both_true false b h = cc
-
-share_of : (s e : ℕ) (t u : Written) → is_for s e t ≡ true → is_for s e u ≡ true → share_pair t u ≡ true
-share_of s e t u h g =
-    let parts = both_true (includes t.states s) (includes t.events e) h in
-    any_at t.states s (λ s. list_any (λ e. is_for s e u) t.events) parts.0 (any_at t.events e (λ e. is_for s e u) parts.1 g)
-
 module _ {X : Type 0} where
-  find_none : (p : X → Bool) (xs : List X) → find p xs ≡ None → list_any p xs ≡ false
-  find_none p [] h = refl
-  find_none p (x ∷ xs) h = by (find_none p xs) (p x) h
-    where
-      by : (find p xs ≡ None → list_any p xs ≡ false) → (b : Bool) → cond b (Some x) (find p xs) ≡ None → (b || list_any p xs) ≡ false
-      by more true h = cc
-      by more false h = more h
-
-  any_mono : (p q : X → Bool) (xs : List X) → ((x : X) → p x ≡ true → q x ≡ true) → list_any p xs ≡ true → list_any q xs ≡ true
-  any_mono p q [] f h = cc
-  any_mono p q (x ∷ xs) f h = by (any_mono p q xs f) (p x) refl h
-    where
-      by : (list_any p xs ≡ true → list_any q xs ≡ true) → (b : Bool) → b ≡ p x → (b || list_any p xs) ≡ true → (q x || list_any q xs) ≡ true
-      by more true e g =
-          let here : q x ≡ true = f x (sym e) in
-          rw here refl
-      by more false e g = ap (λ b. q x || b) (more g) ∙ or_true (q x)
-
   any_none : (p : X → Bool) (xs : List X) → All (λ x. p x ≡ false) xs → list_any p xs ≡ false
   any_none p [] h = refl
   any_none p (x ∷ xs) h =
@@ -87,23 +42,6 @@ module _ {X : Type 0} where
       not_above n h = omega arith
   get_none (x ∷ xs) (suc i) above = get_none xs i (omega arith)
 
-told_none : (number : ℕ) (t : Written) (o : Option Written) → told_with number t o ≡ [] → o ≡ None
-told_none number t None h = refl
-told_none number t (Some u) h = cc
-
-unshared : (number : ℕ) (before ts : List Written) (s e : ℕ) → shared_after number before ts ≡ [] → list_any (is_for s e) before ≡ true → list_any (is_for s e) ts ≡ false
-unshared number before [] s e h there = refl
-unshared number before (t ∷ ts) s e h there =
-    let parts = both_empty (told_with number t (find (share_pair t) before)) (shared_after number (before ++ t ∷ []) ts) h in
-    let apart : list_any (share_pair t) before ≡ false = find_none (share_pair t) before (told_none number t (find (share_pair t) before) parts.0) in
-    by (is_for s e t) refl apart (unshared number (before ++ t ∷ []) ts s e parts.1 (list_any-append (is_for s e) before (t ∷ []) ∙ ap (λ b. b || list_any (is_for s e) (t ∷ [])) there))
-  where
-    by : (b : Bool) → b ≡ is_for s e t → list_any (share_pair t) before ≡ false → list_any (is_for s e) ts ≡ false → (b || list_any (is_for s e) ts) ≡ false
-    by true is apart more =
-        let share = any_mono (is_for s e) (share_pair t) before (λ u h. share_of s e t u (sym is) h) there in
-        cc
-    by false is apart more = more
-
 rows_none : (s e n : ℕ) (ts : List Written) → list_any (is_for s e) ts ≡ false → rows_from s e n ts ≡ []
 rows_none s e n [] h = refl
 rows_none s e n (t ∷ ts) h = by (rows_none s e (n + 1) ts) (is_for s e t) h
@@ -126,9 +64,7 @@ one_row number before (t ∷ ts) s e n h =
 
     by : rows_from s e (n + 1) ts ≡ listed (option_map (row_of s e (n + 1 + position_or_len (is_for s e) ts)) (slice_get ts (position_or_len (is_for s e) ts))) → (b : Bool) → b ≡ is_for s e t → shared_after number (before ++ t ∷ []) ts ≡ [] → cond b (row_of s e n t ∷ []) [] ++ rows_from s e (n + 1) ts ≡ listed (option_map (row_of s e (n + cond (not b) (1 + position_or_len (is_for s e) ts) 0)) (slice_get (t ∷ ts) (cond (not b) (1 + position_or_len (is_for s e) ts) 0)))
     by rest true is more =
-        let here : list_any (is_for s e) (before ++ t ∷ []) ≡ true =
-        list_any-append (is_for s e) before (t ∷ []) ∙ ap (λ b. list_any (is_for s e) before || (b || false)) (sym is) ∙ or_true (list_any (is_for s e) before) in
-        let none = rows_none s e (n + 1) ts (unshared number (before ++ t ∷ []) ts s e more here) in
+        let none = rows_none s e (n + 1) ts (unshared number (before ++ t ∷ []) ts s e more (written_before before t s e (sym is))) in
         ap (λ rows. row_of s e n t ∷ rows) none ∙ ap (λ k. row_of s e k t ∷ []) (sym (add-zero n))
     by rest false is more = rest ∙ onward (position_or_len (is_for s e) ts)
 

@@ -7,5 +7,5 @@ mod rows;
 mod shared;
 mod table;
 
-pub use making::table_of;
+pub use making::{shared_of, table_of};
 pub use table::Table;

@@ -1,5 +1,5 @@
 //! The table of a machine, made from its written transitions.
-ghost use Rattle.std.specs.Prelude.{◌≡◌, ◌<◌, ◌≤◌, ◌^◌, [], All, length, IfOk};
+ghost use Rattle.std.specs.Prelude.{◌≡◌, ◌<◌, ◌≤◌, ◌^◌, ℕ, [], All, length, IfOk};
 ghost use Rattle.slicc_plan.specs.Prelude.{first_after, shared_after};
 ghost use Rattle.pair_table.specs.PairPlaces.{IsAmong};
 ghost use Rattle.pair_table.specs.Tables.{IsTableOf};
@@ -31,23 +31,37 @@ impl Table {
     }
 }
 
-/// The table of a machine's written transitions, where it has so many states and events, and, of its pairs that have two
-/// transitions and of what was found before, the one that is told. The table is right where no pair has two.
-pub fn table_of(
+/// Of the transitions of the machine of this number that share a pair with an earlier one, where it has so many states and events,
+/// and of what was found before, the one that is told.
+pub fn shared_of(
     alloc: Global,
     first: Option<Broken>,
     number: u16,
     ws: &[Written],
     states: usize,
     events: usize,
-) -> Result<(Option<Broken>, Table), NoMemory>
+) -> Result<Option<Broken>, NoMemory>
     requires few { (states ≤ 2 ^ 16) × (events ≤ 2 ^ 16) × (length ws.now < 2 ^ 32) }
     requires among { All (IsAmong states events) ws.now }
-    ensures first { IfOk result (λ r. r.0 ≡ first_after first (shared_after number [] ws.now)) }
-    ensures rows { IfOk result (λ r. shared_after number [] ws.now ≡ [] → IsTableOf ws.now r.1) }
+    ensures { IfOk result (λ found. found ≡ first_after first (shared_after number [] ws.now)) }
 {
     let firsts = first_numbers(alloc, ws, states, events)?;
-    let found = first_shared(alloc, first, number, ws, &firsts, states, events)?;
+    first_shared(alloc, first, number, ws, &firsts, states, events)
+}
+
+/// The table of a machine's written transitions, where it has so many states and events and no pair has two transitions.
+pub fn table_of(
+    alloc: Global,
+    ws: &[Written],
+    states: usize,
+    events: usize,
+) -> Result<Table, NoMemory>
+    requires few { (states ≤ 2 ^ 16) × (events ≤ 2 ^ 16) × (length ws.now < 2 ^ 32) }
+    requires among { All (IsAmong states events) ws.now }
+    requires alone { (number : ℕ) × (shared_after number [] ws.now ≡ []) }
+    ensures { IfOk result (IsTableOf ws.now) }
+{
+    let firsts = first_numbers(alloc, ws, states, events)?;
     let rows = table_rows(alloc, ws, &firsts, states, events)?;
-    Ok((found, Table { events, rows }))
+    Ok(Table { events, rows })
 }

@@ -140,6 +140,7 @@ module _ (trees : List Tree) (t : Topology) (said : List Statement) (laws : AreL
         paths = rows_shaped (network_of said) (links_of (members_from 0 t.counts) said) (sum t.counts) t.routes.paths paths_are;
         receiving = receiving_shaped;
         limits = record {
+          controllers = subst (λ n. n ≤ 64) (sym receiving_shaped.all_rows) few;
           all_networks = ap (λ (os : List Bool). length os) parts.routes.ordered ∙ length-map-range_with_len (is_ordered_on (symbols_of trees) said) 0 16;
           paths = rows_small (network_of said) (links_of (members_from 0 t.counts) said) (sum t.counts) t.routes.paths paths_are (network_within said within) few
               (subst (λ n. All (IsBetween n) (links_of (members_from 0 t.counts) said)) all (links_between (members_from 0 t.counts) said within))

@@ -1,1 +1,2 @@
+mod KeptValues
 mod Numbered

@@ -1,11 +1,12 @@
 -- Lists whose elements are made by their numbers, one more after the others.
-use Rattle.std.proofs.Common.{◌≡◌, ◌++◌, ◌+◌, ◌<◌, ℕ, List, [], ◌∷◌, length, map, slice_index_or, take, sym, ◌∙◌, ap, arith, add-one, add-zero, append-nil, append_assoc}
-use Rattle.std.proofs.Math.Seq.{take-suc}
+use Rattle.std.proofs.Common.{◌≡◌, ◌++◌, ◌+◌, ◌<◌, ℕ, zero, suc, Some, List, [], ◌∷◌, drop, length, map, slice_get, slice_index_or, take, sym, ◌∙◌, ap, arith, add-one, add-zero, append-nil, append_assoc}
+use Rattle.std.proofs.Math.Seq.{drop-cons, take-suc}
 use Rattle.std.proofs.lemmas.List.{map-append}
 use Rattle.std.proofs.lemmas.Grind.{common_steps}
 use Rattle.slicc_ast.specs.declared.tree.item.Tree.{Tree}
 use Rattle.slicc_ast.specs.declared.tree.machine.Machine.{Machine}
-use Rattle.slicc_plan.specs.Prelude.{machines_from, machine_symbols, numbered_from}
+use Rattle.slicc_plan.specs.declared.row.Written.{Written}
+use Rattle.slicc_plan.specs.Prelude.{machines_from, machine_symbols, numbered_from, written_of}
 
 numbered_more : {X Y : Type 0} (f : ℕ → X → List Y) (n : ℕ) (xs : List X) (x : X) → numbered_from f n (xs ++ x ∷ []) ≡ numbered_from f n xs ++ f (n + length xs) x
 numbered_more f n [] x = append-nil (f n x) ∙ ap (λ k. f k x) (sym (add-zero n))
@@ -51,3 +52,18 @@ pub four_added : {X : Type 0} (old l1 l2 l3 l4 : List X) (a b c d : X) → l1 �
 four_added old l1 l2 l3 l4 a b c d p q r s =
     s ∙ ap (λ xs. xs ++ d ∷ []) (r ∙ ap (λ xs. xs ++ c ∷ []) (q ∙ ap (λ xs. xs ++ b ∷ []) p))
     ∙ append_assoc ((old ++ a ∷ []) ++ b ∷ []) (c ∷ []) (d ∷ []) ∙ append_assoc (old ++ a ∷ []) (b ∷ []) (c ∷ d ∷ []) ∙ append_assoc old (a ∷ []) (b ∷ c ∷ d ∷ [])
+
+-- the transitions that are left begin with those of the next machine
+pub first_left : {X : Type 0} (f : X → Machine) (xs : List X) (i : ℕ) (x : X) (left : List (List Written)) → i < length xs → x ≡ slice_index_or xs i x
+    → left ≡ map written_of (map f (drop i xs)) → left ≡ written_of (f x) ∷ map written_of (map f (drop (i + 1) xs))
+first_left f xs i x left below is are =
+    let next : suc i ≡ i + 1 = omega arith in
+    are ∙ ap (λ ys. map written_of (map f ys)) (drop-cons xs i x below ∙ ap (λ y. y ∷ drop (suc i) xs) (sym is) ∙ ap (λ n. x ∷ drop n xs) next)
+
+pub machine_at : {X : Type 0} (f : X → Machine) (xs : List X) (i : ℕ) (x : X) → i < length xs → x ≡ slice_index_or xs i x → slice_get (map f xs) i ≡ Some (f x)
+machine_at f [] i x below is = absurd (none i below)
+  where
+    none : (i : ℕ) → i < 0 → ⊥
+    none i below = omega arith
+machine_at f (y ∷ ys) zero x below is = ap (λ z. Some (f z)) (sym is)
+machine_at f (y ∷ ys) (suc i) x below is = machine_at f ys i x (omega arith) is

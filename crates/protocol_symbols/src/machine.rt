@@ -1,8 +1,8 @@
 //! A machine of a protocol as symbols.
-ghost use Rattle.std.specs.Prelude.{◌≡◌, ℕ, IfOk, List, OnOk, map};
+ghost use Rattle.std.specs.Prelude.{◌≡◌, ℕ, IfOk, List, OnOk, Some, map, slice_get};
 ghost use Rattle.slicc_ast.specs.declared.tree.item.Tree.{Tree};
 ghost use Rattle.slicc_ast.specs.declared.tree.machine.Machine.{Machine};
-ghost use Rattle.slicc_plan.specs.Prelude.{machine_declarations, all_ports, machine_symbols, sequencer_name};
+ghost use Rattle.slicc_plan.specs.Prelude.{machine_declarations, machines_of, all_ports, machine_symbols, sequencer_name, written_of};
 ghost use Rattle.declared_types.specs.Prelude.{declarations_of};
 ghost use Rattle.machine_table.specs.Prelude.{port_seen};
 ghost use Rattle.type_numbers.specs.Prelude.{AreNumbered, trees_of};
@@ -18,6 +18,7 @@ use machine_table::{PortOn, events, states};
 use ruby_base::{NoMemory, Seq, Text};
 use ruby_symbols::{MachineSymbols, TransitionSymbol, action_among, function_among};
 use slicc_ast::tree::Machine;
+use slicc_plan::Written;
 use std::alloc::Global;
 use type_numbers::TypeNumbers;
 
@@ -83,12 +84,13 @@ fn sequencer_name<'a>(
     }
 }
 
-fn add_rest(alloc: Global, rest: &mut Rest, m: &Machine) -> Result<(), NoMemory>
+fn add_rest(rest: &mut Rest, m: &Machine, written: Seq<Written>) -> Result<(), NoMemory>
+    requires { written ≡ written_of m.now }
     ensures { OnOk result (AddRest m.now rest.old rest.new) }
 {
     rest.name.append(&m.name.text)?;
     add_permissions(&mut rest.permissions, states(m))?;
-    add_transitions(alloc, &mut rest.transitions, m)?;
+    add_transitions(&mut rest.transitions, written)?;
     Ok(())
 }
 
@@ -103,19 +105,22 @@ fn add_parts<'a>(
     number: u16,
     m: &'a Machine,
     declarations: &[Declared<'a>],
+    written: Seq<Written>,
 ) -> Result<(), NoMemory>
     requires types { AreNumbered types.now }
     requires ports { map port_seen ports.now ≡ all_ports (trees_of types.now) }
+    requires machine { slice_get (machines_of (trees_of types.now)) number ≡ Some m.now }
     requires declarations { declarations_of declarations.now ≡ machine_declarations m.now }
+    requires written { written ≡ written_of m.now }
     ensures objects { OnOk result (AddObjects (trees_of types.now) number m.now (machine_declarations m.now) objects.old objects.new) }
     ensures bodies { OnOk result (AddBodies (trees_of types.now) m.now objects.new.buffers m.now.declarations bodies.old bodies.new) }
     ensures rest { OnOk result (AddRest m.now rest.old rest.new) }
 {
     add_objects(alloc, objects, types, ports, number, m, declarations)?;
     let buffers = objects.buffers.as_slice();
-    let written = m.declarations.as_slice();
-    add_bodies(alloc, bodies, types, m, declarations, buffers, written)?;
-    add_rest(alloc, rest, m)?;
+    let inside = m.declarations.as_slice();
+    add_bodies(alloc, bodies, types, m, declarations, buffers, inside)?;
+    add_rest(rest, m, written)?;
     Ok(())
 }
 
@@ -167,10 +172,13 @@ fn machine_with<'a>(
     number: u16,
     m: &'a Machine,
     declarations: &[Declared<'a>],
+    written: Seq<Written>,
 ) -> Result<MachineSymbols, NoMemory>
     requires types { AreNumbered types.now }
     requires ports { map port_seen ports.now ≡ all_ports (trees_of types.now) }
+    requires machine { slice_get (machines_of (trees_of types.now)) number ≡ Some m.now }
     requires declarations { declarations_of declarations.now ≡ machine_declarations m.now }
+    requires written { written ≡ written_of m.now }
     ensures { IfOk result (λ s. s ≡ machine_symbols (trees_of types.now) number m.now) }
 {
     let numbers = numbers_of(types, m, declarations);
@@ -188,22 +196,26 @@ fn machine_with<'a>(
         number,
         m,
         declarations,
+        written,
     )?;
     Ok(together(numbers, sequencer, objects, bodies, rest))
 }
 
-/// The machine of this number as symbols, where these are the ports of all machines.
+/// The machine of this number as symbols, where these are the ports of all machines and these its transitions.
 pub fn machine_symbols<'a>(
     alloc: Global,
     types: &TypeNumbers<'a>,
     ports: &[PortOn<'a>],
     number: u16,
     m: &'a Machine,
+    written: Seq<Written>,
 ) -> Result<MachineSymbols, NoMemory>
     requires types { AreNumbered types.now }
     requires ports { map port_seen ports.now ≡ all_ports (trees_of types.now) }
+    requires machine { slice_get (machines_of (trees_of types.now)) number ≡ Some m.now }
+    requires written { written ≡ written_of m.now }
     ensures { IfOk result (λ s. s ≡ machine_symbols (trees_of types.now) number m.now) }
 {
     let declarations = machine_list(alloc, m)?;
-    machine_with(alloc, types, ports, number, m, &declarations)
+    machine_with(alloc, types, ports, number, m, &declarations, written)
 }

@@ -1,5 +1,5 @@
 //! Names, copied and found, and numbers.
-ghost use Rattle.std.specs.Prelude.{◌≡◌, ◌++◌, IfOk, OnOk, map, position};
+ghost use Rattle.std.specs.Prelude.{◌≡◌, ◌<◌, ◌++◌, IfOk, IfSome, OnOk, length, map, position};
 ghost use Rattle.std.specs.Str.{bytes_eq};
 
 use declared_types::Named;
@@ -8,7 +8,8 @@ use std::alloc::Global;
 
 /// The place of the first of this name.
 pub fn place_named<T: Named>(members: &[T], name: &[u8]) -> Option<usize>
-    ensures { result ≡ position (λ m. bytes_eq (T.text m) name.now) members.now }
+    ensures place { result ≡ position (λ m. bytes_eq (T.text m) name.now) members.now }
+    ensures within { IfSome result (λ n. n < length members.now) }
 {
     members.iter().position(|m| m.text() == name)
 }
@@ -27,8 +28,7 @@ pub fn add_texts<T: Named>(
     Ok(())
 }
 
-/// The number of a declaration, or of the entries of a table, as symbols keep it. A text has fewer declarations than that, and
-/// the entries that a protocol writes are up to 256.
+/// The number of a declaration as symbols keep it. A text has fewer declarations than that.
 pub fn in_32_bits(number: usize) -> Result<u32, NoMemory>
     ensures { IfOk result (λ kept. kept ≡ number) }
 {

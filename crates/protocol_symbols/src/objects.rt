@@ -1,10 +1,10 @@
 //! The parameters and objects of a machine: its buffers, what has references as its values, and all together.
-ghost use Rattle.std.specs.Prelude.{◌≡◌, OnOk, map, ◌++◌, ◌∷◌, [], IfOk, Some, option_and_then};
+ghost use Rattle.std.specs.Prelude.{◌≡◌, OnOk, map, ◌++◌, ◌∷◌, [], IfOk, Some, option_and_then, slice_get};
 ghost use Rattle.std.specs.Option.{option_copied, option_map};
-ghost use Rattle.slicc_plan.specs.Prelude.{machine_declarations, all_ports, reference_of_type, attributes_of, buffer_of_place, buffer_symbol, structure_number};
+ghost use Rattle.slicc_plan.specs.Prelude.{machine_declarations, machines_of, within, bad_object_attributes, bad_values_of, type_in, all_ports, reference_of_type, attributes_of, buffer_of_place, buffer_symbol, structure_number};
 ghost use Rattle.declared_types.specs.Prelude.{declaration_of, declarations_of, type_of};
-ghost use Rattle.machine_table.specs.Prelude.{port_seen, buffer_seen};
-ghost use Rattle.type_numbers.specs.Prelude.{AreNumbered, trees_of};
+ghost use Rattle.machine_table.specs.Prelude.{place_seen, port_seen, buffer_seen};
+ghost use Rattle.type_numbers.specs.Prelude.{AreNumbered, IsOnNetwork, trees_of};
 ghost use Rattle.protocol_symbols.specs.Parts.{AddNamed, AddObject, AddObjects, no_objects};
 
 use crate::lines::line_kind;
@@ -55,6 +55,7 @@ fn add_named<'a>(
 ) -> Result<(), NoMemory>
     requires types { AreNumbered types.now }
     requires declarations { declarations_of declarations.now ≡ machine_declarations m.now }
+    requires attributes { bad_object_attributes (type_in (trees_of types.now) (within m.now) kind.now.text) pairs.now ≡ [] }
     ensures { OnOk result (AddNamed (trees_of types.now) m.now name.now kind.now.text pairs.now (option_copied literal.entry) objects.old objects.new) }
 {
     let t = type_in(&types.scopes, Scope::Within(m), &kind.text);
@@ -94,6 +95,7 @@ fn add_object<'a>(
     requires types { AreNumbered types.now }
     requires ports { map port_seen ports.now ≡ all_ports (trees_of types.now) }
     requires declarations { declarations_of declarations.now ≡ machine_declarations m.now }
+    requires values { bad_values_of (trees_of types.now) (within m.now) (declaration_of d) ≡ [] }
     ensures { OnOk result (AddObject (trees_of types.now) number m.now (declaration_of d.entry) objects.old objects.new) }
 {
     add_buffer(alloc, &mut objects.buffers, types, ports, number, m, d)?;
@@ -144,6 +146,7 @@ pub fn add_objects<'a>(
     requires types { AreNumbered types.now }
     requires ports { map port_seen ports.now ≡ all_ports (trees_of types.now) }
     requires declarations { declarations_of declarations.now ≡ machine_declarations m.now }
+    requires machine { slice_get (machines_of (trees_of types.now)) number ≡ Some m.now }
     ensures { OnOk result (AddObjects (trees_of types.now) number m.now (declarations_of declarations.now) objects.old objects.new) }
 {
     for d in declarations {
@@ -192,10 +195,11 @@ fn buffer_of_place<'a>(
 ) -> Result<BufferSymbol, NoMemory>
     requires types { AreNumbered types.now }
     requires ports { map port_seen ports.now ≡ all_ports (trees_of types.now) }
+    requires place { IsOnNetwork (place_seen b.place) }
     ensures { IfOk result (λ s. s ∷ [] ≡ buffer_of_place (trees_of types.now) number (attributes_of (declaration_of d.entry)) (Some (buffer_seen b.entry))) }
 {
     let t = message_type(ports, number, b);
-    let place = buffer_place(types, b.place, t)?;
+    let place = buffer_place(types, b.place, t);
     let message = message_number(types, t);
     Ok(BufferSymbol {
         name: Text::copied(alloc, &b.name.text)?,
@@ -218,6 +222,7 @@ pub fn add_buffer<'a>(
 ) -> Result<(), NoMemory>
     requires types { AreNumbered types.now }
     requires ports { map port_seen ports.now ≡ all_ports (trees_of types.now) }
+    requires values { bad_values_of (trees_of types.now) (within m.now) (declaration_of d) ≡ [] }
     ensures { OnOk result (list.new ≡ list.old ++ buffer_symbol (trees_of types.now) number m.now (declaration_of d.entry)) }
 {
     match buffer_in(&types.scopes, m, d) {

@@ -1,21 +1,19 @@
 //! The states, events and transitions of a machine.
-ghost use Rattle.std.specs.Prelude.{◌≡◌, ◌++◌, IfOk, OnOk, map, position};
+ghost use Rattle.std.specs.Prelude.{◌≡◌, ◌<◌, ◌++◌, IfSome, OnOk, length, map, position};
 ghost use Rattle.std.specs.Option.{option_copied, option_map};
 ghost use Rattle.std.specs.Str.{bytes_eq};
 ghost use Rattle.slicc_ast.specs.declared.tree.declaration.State.{State};
 ghost use Rattle.slicc_plan.specs.Declarations.{enumeration};
-ghost use Rattle.slicc_plan.specs.Prelude.{states, number_of_found, permission_number, permissions_found, written_of, transition_symbol};
+ghost use Rattle.slicc_plan.specs.Prelude.{states, number_of_found, permission_number, permissions_found, transition_symbol};
 ghost use Rattle.declared_types.specs.Types.{texts_of};
 ghost use Rattle.type_numbers.specs.Prelude.{AreNumbered, trees_of};
 
 use crate::names::place_named;
 use declared_types::{KnownType, Scope, fixed_members};
-use machine_table::written_transitions;
 use ruby_base::{NoMemory, Seq};
 use ruby_symbols::TransitionSymbol;
 use slicc_ast::tree::{Enumeration, Machine, State, States};
 use slicc_plan::{BuiltInType, Written};
-use std::alloc::Global;
 use type_numbers::{TypeNumbers, declared_number, kept_or};
 
 /// The number of these states of a machine among the enumerations.
@@ -45,13 +43,14 @@ pub fn events_number<'a>(types: &TypeNumbers<'a>, m: &'a Machine, e: Option<&'a 
 }
 
 fn number_among(names: &[&str], text: &[u8]) -> Option<usize>
-    ensures { result ≡ position (λ name. bytes_eq name text.now) (texts_of names.now) }
+    ensures place { result ≡ position (λ name. bytes_eq name text.now) (texts_of names.now) }
+    ensures within { IfSome result (λ n. n < length names.now) }
 {
     place_named(names, text)
 }
 
-fn permission_number(text: &[u8]) -> Result<u16, NoMemory>
-    ensures { IfOk result (λ number. number ≡ permission_number text.now) }
+fn permission_number(text: &[u8]) -> u16
+    ensures { result ≡ permission_number text.now }
 {
     kept_or(
         number_among(fixed_members(BuiltInType::AccessPermission), text),
@@ -63,7 +62,7 @@ fn add_permissions_of(list: &mut Seq<u16>, members: &[State]) -> Result<(), NoMe
     ensures { OnOk result (list.new ≡ list.old ++ map (λ (s : State). permission_number s.permission.text) members.now) }
 {
     for s in members {
-        list.push(permission_number(&s.permission.text)?)?;
+        list.push(permission_number(&s.permission.text))?;
     }
     Ok(())
 }
@@ -78,41 +77,26 @@ pub fn add_permissions(list: &mut Seq<u16>, s: Option<&States>) -> Result<(), No
     }
 }
 
-fn transition_symbol(alloc: Global, t: &Written) -> Result<TransitionSymbol, NoMemory>
-    ensures { IfOk result (λ s. s ≡ transition_symbol t.now) }
+fn transition_symbol(t: Written) -> TransitionSymbol
+    ensures { result ≡ transition_symbol t }
 {
-    let states = Seq::copied(alloc, &t.states)?;
-    let events = Seq::copied(alloc, &t.events)?;
-    let actions = Seq::copied(alloc, &t.actions)?;
-    Ok(TransitionSymbol {
-        states,
-        events,
+    TransitionSymbol {
+        states: t.states,
+        events: t.events,
         next: t.next,
-        actions,
-    })
-}
-
-fn add_written(
-    alloc: Global,
-    list: &mut Seq<TransitionSymbol>,
-    written: &[Written],
-) -> Result<(), NoMemory>
-    ensures { OnOk result (list.new ≡ list.old ++ map transition_symbol written.now) }
-{
-    for t in written {
-        list.push(transition_symbol(alloc, t)?)?;
+        actions: t.actions,
     }
-    Ok(())
 }
 
 /// Adds the transitions of a machine as they are written.
 pub fn add_transitions(
-    alloc: Global,
     list: &mut Seq<TransitionSymbol>,
-    m: &Machine,
+    written: Seq<Written>,
 ) -> Result<(), NoMemory>
-    ensures { OnOk result (list.new ≡ list.old ++ map transition_symbol (written_of m.now)) }
+    ensures { OnOk result (list.new ≡ list.old ++ map transition_symbol written) }
 {
-    let written = written_transitions(alloc, m)?;
-    add_written(alloc, list, &written)
+    for t in written.into_vec() {
+        list.push(transition_symbol(t))?;
+    }
+    Ok(())
 }

@@ -1,12 +1,11 @@
 //! The tables of lines of a machine, and its sequencer.
-ghost use Rattle.std.specs.Prelude.{◌≡◌, ◌++◌, IfOk, OnOk, unwrap_or, filter_map, slice_get};
+ghost use Rattle.std.specs.Prelude.{◌≡◌, ◌++◌, [], OnOk, unwrap_or, filter_map, slice_get};
 ghost use Rattle.std.specs.Option.{option_map, option_copied};
-ghost use Rattle.slicc_plan.specs.Prelude.{machine_declarations, line_number, table_of_sort, line_structure, table_sort, written_entries, no_structure, sequencer_in};
+ghost use Rattle.slicc_plan.specs.Prelude.{machine_declarations, line_number, table_of_sort, line_structure, table_sort, written_entries, no_structure, sequencer_in, bad_object_attributes};
 ghost use Rattle.declared_types.specs.Prelude.{declarations_of, type_of, declaration_of};
 ghost use Rattle.type_numbers.specs.Prelude.{AreNumbered, trees_of};
 
 use crate::lines::{line_number, line_structure};
-use crate::names::in_32_bits;
 use declaration_rules::{is_built_in, number_value};
 use declared_types::{Declared, KnownType, LineSort, Scope, first_attribute, type_in};
 use ruby_base::{NoMemory, Seq, Text};
@@ -28,21 +27,22 @@ fn written_entries(pairs: &Pairs) -> u64
     }
 }
 
-fn table_sort(t: Option<KnownType<'_>>, pairs: &Pairs) -> Result<Option<TableSort>, NoMemory>
-    ensures { IfOk result (λ sort. sort ≡ table_sort (option_map type_of t.entry) pairs.now) }
+fn table_sort(t: Option<KnownType<'_>>, pairs: &Pairs) -> Option<TableSort>
+    requires { bad_object_attributes (option_map type_of t) pairs.now ≡ [] }
+    ensures { result ≡ table_sort (option_map type_of t.entry) pairs.now }
 {
     if is_built_in(BuiltInType::Cache, t) {
-        return Ok(Some(TableSort::Cache));
+        return Some(TableSort::Cache);
     }
     if is_built_in(BuiltInType::Directory, t) {
-        return Ok(Some(TableSort::Directory));
+        return Some(TableSort::Directory);
     }
     if is_built_in(BuiltInType::TbeTable, t) {
-        return Ok(Some(TableSort::Tbe {
-            entries: in_32_bits(written_entries(pairs) as usize)?,
-        }));
+        return Some(TableSort::Tbe {
+            entries: written_entries(pairs) as u32,
+        });
     }
-    Ok(None)
+    None
 }
 
 // The number of the structure of the lines of tables of a sort, of a machine that declares this.
@@ -101,10 +101,18 @@ pub fn add_table<'a>(
 ) -> Result<(), NoMemory>
     requires types { AreNumbered types.now }
     requires declarations { declarations_of declarations.now ≡ machine_declarations m.now }
+    requires attributes { bad_object_attributes (option_map type_of t) pairs.now ≡ [] }
     ensures { OnOk result (list.new ≡ list.old ++ table_of_sort (trees_of types.now) m.now name.now (table_sort (option_map type_of t.entry) pairs.now)) }
 {
-    let sort = table_sort(t, pairs)?;
-    add_of_sort(alloc, list, types, m, declarations, name, sort)
+    add_of_sort(
+        alloc,
+        list,
+        types,
+        m,
+        declarations,
+        name,
+        table_sort(t, pairs),
+    )
 }
 
 // The name of a sequencer that is declared.

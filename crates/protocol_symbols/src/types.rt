@@ -1,8 +1,8 @@
 //! The enumerations and structures of a protocol.
-ghost use Rattle.std.specs.Prelude.{◌≡◌, ◌++◌, [], ◌∷◌, IfOk, None, OnOk, flat_map, map};
-ghost use Rattle.slicc_plan.specs.Prelude.{members_of, built_in_symbols, enumeration_symbol, enumeration_symbols, owner, field_symbols, request_symbol, structure_symbol, structure_symbols};
+ghost use Rattle.std.specs.Prelude.{◌≡◌, ◌++◌, [], ◌∷◌, All, IfOk, None, OnOk, flat_map, map};
+ghost use Rattle.slicc_plan.specs.Prelude.{members_of, built_in_symbols, enumeration_symbol, enumeration_symbols, owner, field_symbols, request_symbol, structure_symbol, structure_symbols, ScopedDeclaration};
 ghost use Rattle.declared_types.specs.Prelude.{scope_of};
-ghost use Rattle.type_numbers.specs.Prelude.{AreNumbered, scoped_of, trees_of};
+ghost use Rattle.type_numbers.specs.Prelude.{AreNumbered, HasFewMembers, NamesFewMembers, scoped_of, trees_of};
 ghost use Rattle.ruby_value.specs.Prelude.{default_value};
 
 use crate::names::{add_texts, place_named};
@@ -16,12 +16,12 @@ use std::alloc::Global;
 use type_numbers::{Scoped, TypeNumbers, kept, own_default, structure_fields};
 
 /// The number of the machine that a declaration is made in, if it is made in one.
-pub fn owner(types: &TypeNumbers<'_>, scope: Scope<'_>) -> Result<Option<u16>, NoMemory>
+pub fn owner(types: &TypeNumbers<'_>, scope: Scope<'_>) -> Option<u16>
     requires { AreNumbered types.now }
-    ensures { IfOk result (λ number. number ≡ owner (trees_of types.now) (scope_of scope.entry)) }
+    ensures { result ≡ owner (trees_of types.now) (scope_of scope.entry) }
 {
     match scope {
-        Scope::Everywhere => Ok(None),
+        Scope::Everywhere => None,
         Scope::Within(m) => kept(place_named(&types.machines, &m.name.text)),
     }
 }
@@ -65,11 +65,12 @@ fn add_enumeration<'a>(
     types: &TypeNumbers<'a>,
     d: &Scoped<'a>,
 ) -> Result<(), NoMemory>
-    requires { AreNumbered types.now }
+    requires types { AreNumbered types.now }
+    requires members { HasFewMembers (scoped_of d.now).declaration }
     ensures { OnOk result (list.new ≡ list.old ++ enumeration_symbol (trees_of types.now) (scoped_of d.now)) }
 {
-    let machine = owner(types, d.scope)?;
-    let default = own_default(d.scope, d.declaration)?;
+    let machine = owner(types, d.scope);
+    let default = own_default(d.scope, d.declaration);
     match d.declaration {
         Declared::Enumeration(e) => {
             add_members(alloc, list, &e.name.text, machine, default, &e.members)
@@ -87,7 +88,8 @@ fn add_enumerations<'a>(
     types: &TypeNumbers<'a>,
     declared: &[Scoped<'a>],
 ) -> Result<(), NoMemory>
-    requires { AreNumbered types.now }
+    requires types { AreNumbered types.now }
+    requires members { All (λ (d : ScopedDeclaration). HasFewMembers d.declaration) (map scoped_of declared.now) }
     ensures { OnOk result (list.new ≡ list.old ++ flat_map (enumeration_symbol (trees_of types.now)) (map scoped_of declared.now)) }
 {
     for d in declared {
@@ -134,10 +136,11 @@ fn structure_of<'a>(
     scope: Scope<'a>,
     s: &'a Structure,
 ) -> Result<StructureSymbol, NoMemory>
-    requires { AreNumbered types.now }
+    requires types { AreNumbered types.now }
+    requires scope { NamesFewMembers (trees_of types.now) (scope_of scope) }
     ensures { IfOk result (λ r. r ≡ record { name = s.now.name.text; machine = owner (trees_of types.now) (scope_of scope.entry); fields = field_symbols (trees_of types.now) (scope_of scope.entry) s.now }) }
 {
-    let machine = owner(types, scope)?;
+    let machine = owner(types, scope);
     let name = Text::copied(alloc, &s.name.text)?;
     let fields = structure_fields(alloc, types, scope, s)?;
     Ok(StructureSymbol {
@@ -153,7 +156,8 @@ fn add_structure<'a>(
     types: &TypeNumbers<'a>,
     d: &Scoped<'a>,
 ) -> Result<(), NoMemory>
-    requires { AreNumbered types.now }
+    requires types { AreNumbered types.now }
+    requires scope { NamesFewMembers (trees_of types.now) (scoped_of d.now).scope }
     ensures { OnOk result (list.new ≡ list.old ++ structure_symbol (trees_of types.now) (scoped_of d.now)) }
 {
     match d.declaration {
@@ -168,7 +172,8 @@ fn add_structures<'a>(
     types: &TypeNumbers<'a>,
     declared: &[Scoped<'a>],
 ) -> Result<(), NoMemory>
-    requires { AreNumbered types.now }
+    requires types { AreNumbered types.now }
+    requires scopes { All (λ (d : ScopedDeclaration). NamesFewMembers (trees_of types.now) d.scope) (map scoped_of declared.now) }
     ensures { OnOk result (list.new ≡ list.old ++ flat_map (structure_symbol (trees_of types.now)) (map scoped_of declared.now)) }
 {
     for d in declared {

@@ -1,6 +1,7 @@
 // Names by their numbers, rows of tables and lines that transitions need, of the two protocols of the rows.
 ghost use Rattle.std.specs.Prelude.{◌≤◌, length};
 ghost use Rattle.slicc_parse.specs.Prelude.{AreEndedOnce};
+ghost use Rattle.slicc_plan.specs.Prelude.{HasFewMachines};
 
 use machine_table::build_of_trees;
 use ruby_base::{Seq, Text};
@@ -10,7 +11,7 @@ use slicc_flow::flow_of_trees;
 use slicc_lex::Token;
 use slicc_names::{Names, collect};
 use slicc_parse::parse;
-use slicc_plan::Row;
+use slicc_plan::{Row, machine_at};
 use std::alloc::Global;
 
 // Scopes and names in them. The protocol is scope 0.
@@ -90,18 +91,9 @@ fn add_row(rows: &mut RowText, row: Option<&Row>) {
     }
 }
 
-fn add_names(rows: &mut RowText, trees: &Seq<Tree>) {
-    match &collect(rows.alloc(), trees) {
-        Ok(names) => {
-            for (scope, name) in NAMES {
-                add_name(rows, names, *scope, name);
-            }
-        }
-        Err(_) => rows.lose(),
-    }
-}
-
-fn add_rows(rows: &mut RowText, trees: &[Tree]) {
+fn add_rows(rows: &mut RowText, trees: &[Tree])
+    requires { HasFewMachines trees.now }
+{
     match &build_of_trees(rows.alloc(), trees) {
         Ok(tables) => {
             let mut before = "";
@@ -116,6 +108,19 @@ fn add_rows(rows: &mut RowText, trees: &[Tree]) {
     }
 }
 
+// Adds the numbers of names, and the rows of the first machine, of a protocol whose declarations keep all rules.
+fn add_found(rows: &mut RowText, trees: &Seq<Tree>) {
+    match &collect(rows.alloc(), trees) {
+        Ok(names) => {
+            for (scope, name) in NAMES {
+                add_name(rows, names, *scope, name);
+            }
+            add_rows(rows, trees);
+        }
+        Err(_) => rows.lose(),
+    }
+}
+
 /// Adds the numbers of names, and the rows of the first machine.
 pub(crate) fn add_numbers(rows: &mut RowText, tokens: &Seq<Token>)
     requires once { AreEndedOnce tokens.now }
@@ -123,8 +128,7 @@ pub(crate) fn add_numbers(rows: &mut RowText, tokens: &Seq<Token>)
 {
     match trees_of(rows.alloc(), tokens) {
         Some(trees) => {
-            add_names(rows, &trees);
-            add_rows(rows, &trees);
+            add_found(rows, &trees);
             drop(trees);
         }
         None => rows.lose(),
@@ -132,6 +136,10 @@ pub(crate) fn add_numbers(rows: &mut RowText, tokens: &Seq<Token>)
 }
 
 fn add_lines(rows: &mut RowText, trees: &[Tree]) {
+    // A protocol within its limits has 16 machines at most.
+    let None = machine_at(trees, 16) else {
+        return rows.lose();
+    };
     match &flow_of_trees(rows.alloc(), trees) {
         Ok(flow) => {
             let mut before = "";

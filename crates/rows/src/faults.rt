@@ -1,12 +1,10 @@
-// Calls over libraries and sinks in memory: those that fail where a line says so, those that never fail, and calls with long texts. They are
-// the rows of a list, and of each are printed a line `== LINE`, what the sink then holds, the status, and whether a record is kept.
+// Calls over libraries and sinks in memory: those that fail where a line says so, and calls with long texts. They are the rows of a list, and
+// of each are printed a line `== LINE`, what the sink then holds, the status, and whether a record is kept.
 use crate::row::{add, row_of};
 use crate::table::end_of;
 use ruby_base::{NoMemory, Seq, Text};
 use ruby_cli::ruby;
-use ruby_outside::{
-    Got, Library, MemLibrary, MemSink, OpenGate, RowText, Sink, SureLibrary, SureSink,
-};
+use ruby_outside::{Got, Library, MemLibrary, MemSink, OpenGate, RowText, Sink};
 use std::alloc::Global;
 use std::sync::Wait;
 use std::thread::Threads;
@@ -199,22 +197,8 @@ fn add_planned<R: Threads + Wait + Sync>(
     }
 }
 
-// Adds the row of a call over a library and a sink that never fail. Such a sink tells nothing of what it takes.
-fn add_sure<R: Threads + Wait + Sync>(
-    rt: &R,
-    rows: &mut RowText,
-    line: &str,
-    files: Seq<(Text, Text)>,
-    call: &[String],
-) {
-    let mut library = SureLibrary::new(rows.alloc(), files);
-    let made = made(rt, rows.alloc(), call, &mut library, &mut SureSink::new());
-    drop(library);
-    add_made(rows, line, b"", made);
-}
-
-// What the words of a line say: the faults that are planned, if any are, the list of the files, and the words of the call.
-fn said(words: &[String]) -> Option<(Option<Planned>, &String, &[String])> {
+// What the words of a line say: what is planned, the list of the files, and the words of the call.
+fn said(words: &[String]) -> Option<(Planned, &String, &[String])> {
     match words {
         [kind, read, write, most, files, call @ ..] if kind.as_str() == "fails" => {
             let planned = Planned {
@@ -224,7 +208,7 @@ fn said(words: &[String]) -> Option<(Option<Planned>, &String, &[String])> {
                 room: ROOM,
                 lines: ROOM,
             };
-            Some((Some(planned), files, call))
+            Some((planned, files, call))
         }
         [kind, lines, files, call @ ..] if kind.as_str() == "ends" => {
             let planned = Planned {
@@ -234,9 +218,8 @@ fn said(words: &[String]) -> Option<(Option<Planned>, &String, &[String])> {
                 room: LONG_ROOM,
                 lines: number(lines.as_str()),
             };
-            Some((Some(planned), files, call))
+            Some((planned, files, call))
         }
-        [kind, files, call @ ..] if kind.as_str() == "sure" => Some((None, files, call)),
         _ => None,
     }
 }
@@ -257,8 +240,5 @@ pub(crate) fn add_row<R: Threads + Wait + Sync, L: Library>(
         drop(files);
         return rows.lose();
     }
-    match planned {
-        Some(planned) => add_planned(rt, rows, line, &planned, files, call),
-        None => add_sure(rt, rows, line, files, call),
-    }
+    add_planned(rt, rows, line, &planned, files, call);
 }

@@ -1,6 +1,5 @@
 pub mod Counting
 pub mod Following
-pub mod NoPairShared
 pub mod RowsBelow
 pub mod ReadsMade
 pub mod OnePlain

@@ -1,13 +1,13 @@
 //! The rows of a protocol's tables, and their lines.
-ghost use Rattle.std.specs.Prelude.{◌≡◌, ◌≤◌, ◌^◌, ◌++◌, ℕ, IfOk, OnOk, flat_map, map, slice_get};
+ghost use Rattle.std.specs.Prelude.{◌≡◌, ◌≤◌, ◌^◌, ◌++◌, ℕ, All, IfOk, OnOk, flat_map, length, map, slice_get};
 ghost use Rattle.std.specs.Option.{option_copied};
 ghost use Rattle.machine_table.specs.Prelude.{answer, rows_of_found};
 ghost use Rattle.ruby_answers.specs.Prelude.{AreTableRows, answered, answered_in_state, machine_rows, table_lines};
 ghost use Rattle.slicc_plan.specs.Buffers.{listed};
-ghost use Rattle.slicc_plan.specs.Prelude.{numbers_below, rows};
+ghost use Rattle.slicc_plan.specs.Prelude.{HasFewParts, numbers_below, rows};
 ghost use Rattle.trace_print.specs.Prelude.{AreLinesPut};
 
-use machine_table::{Tables, event_count, kept_number, machines, state_count, tabulate};
+use machine_table::{Tables, event_count, machines, state_count, tables_of};
 use ruby_base::{NoMemory, Seq};
 use ruby_outside::Sink;
 use slicc_ast::tree::Machine;
@@ -67,26 +67,25 @@ fn answered_rows(
 }
 
 fn rows_of(alloc: Global, tables: &Tables, number: u16, m: &Machine) -> Result<Seq<Row>, NoMemory>
-    requires { (state event : ℕ) → rows m.now state event ≡ answered tables.now number state event }
+    requires few { HasFewParts m.now }
+    requires rows { (state event : ℕ) → rows m.now state event ≡ answered tables.now number state event }
     ensures { IfOk result (λ found. found ≡ machine_rows m.now) }
 {
     let states = state_count(m);
     let events = event_count(m);
-    if states > 65536 || events > 65536 {
-        return Err(NoMemory);
-    }
     let rows = answered_rows(alloc, tables, number, states, events)?;
     Ok(rows)
 }
 
 fn rows_in(alloc: Global, machines: &[&Machine], tables: &Tables) -> Result<Seq<Seq<Row>>, NoMemory>
-    requires { (n s e : ℕ) → rows_of_found (slice_get (map (λ m. m.now) machines.now) n) s e ≡ answered tables.now n s e }
+    requires few { length machines.now ≤ 16 }
+    requires parts { All HasFewParts (map (λ m. m.now) machines.now) }
+    requires rows { (n s e : ℕ) → rows_of_found (slice_get (map (λ m. m.now) machines.now) n) s e ≡ answered tables.now n s e }
     ensures { IfOk result (λ found. found ≡ map machine_rows (map (λ m. m.now) machines.now)) }
 {
     let mut found = Seq::new(alloc);
     for (place, m) in machines.iter().enumerate() {
-        let number = kept_number(place)?;
-        let rows = rows_of(alloc, tables, number, m)?;
+        let rows = rows_of(alloc, tables, place as u16, m)?;
         found.push(rows)?;
     }
     Ok(found)
@@ -97,9 +96,9 @@ pub fn table_rows(alloc: Global, plan: &Plan) -> Result<Seq<Seq<Row>>, NoMemory>
     ensures { IfOk result (λ tables. AreTableRows plan.now tables) }
 {
     let trees = plan.trees();
-    let tabled = tabulate(alloc, None, trees)?;
+    let tables = tables_of(alloc, trees)?;
     let machines = machines(alloc, trees)?;
-    let rows = rows_in(alloc, machines.as_slice(), &tabled.1)?;
+    let rows = rows_in(alloc, machines.as_slice(), &tables)?;
     Ok(rows)
 }
 

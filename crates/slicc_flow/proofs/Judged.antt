@@ -1,6 +1,6 @@
 -- The bodies of all machines, and what is found in each.
-use Rattle.std.proofs.Common.{◌≡◌, ◌+◌, ◌<◌, ◌≤◌, ◌++◌, ◌∷◌, ℕ, List, [], Option, length, map, get_or, take, drop, drop-cons, add-one, flat_map, refl, sym, ap, ◌∙◌, append-nil}
-use Rattle.std.proofs.lemmas.List.{take_all, take_more}
+use Rattle.std.proofs.Common.{◌≡◌, ◌+◌, ◌<◌, ◌≤◌, ◌++◌, ◌∷◌, ℕ, List, [], Option, length, map, get_or, take, drop, drop-cons, add-one, flat_map, refl, sym, subst, ap, ◌∙◌, append-nil}
+use Rattle.std.proofs.lemmas.List.{length-map, take_all, take_more}
 use Rattle.std.proofs.lemmas.Grind.{flat_map-append}
 use Rattle.slicc_ast.specs.declared.tree.item.Tree.{Tree}
 use Rattle.slicc_ast.specs.declared.tree.machine.Machine.{Machine}
@@ -27,6 +27,10 @@ within_all trees (m ∷ ms) = ap (λ xs. bodies_in trees m ∷ xs) (within_all t
 
 pub scopes_all : (trees : List Tree) (n : ℕ) → length (wide_scopes trees) ≤ n → flat_map (bodies_of_scope trees) (take n (wide_scopes trees)) ≡ all_bodies trees
 scopes_all trees n le = ap (flat_map (bodies_of_scope trees)) (take_all n (wide_scopes trees) le) ∙ within_all trees (machines_of trees)
+
+-- there are as many as machines
+pub few_bodies : (trees : List Tree) (machines : List MachineBodies) → machines ≡ all_bodies trees → length (machines_of trees) ≤ 16 → length machines ≤ 16
+few_bodies trees machines is few = subst (λ n. n ≤ 16) (sym (ap length is ∙ length-map (machines_of trees) (bodies_in trees))) few
 
 pub scope_step : (trees : List Tree) (scope : ℕ) (old new : List MachineBodies) → scope < length (wide_scopes trees) → old ≡ flat_map (bodies_of_scope trees) (take scope (wide_scopes trees)) → new ≡ old ++ bodies_at trees scope → new ≡ flat_map (bodies_of_scope trees) (take (scope + 1) (wide_scopes trees))
 scope_step trees scope old new below is next =

@@ -1,6 +1,6 @@
 //! The rules of flow, over all machines.
-ghost use Rattle.std.specs.Prelude.{◌≡◌, ◌++◌, IfOk, OnOk};
-ghost use Rattle.slicc_plan.specs.Prelude.{first_after};
+ghost use Rattle.std.specs.Prelude.{◌≡◌, ◌≤◌, ◌++◌, length, IfOk, OnOk};
+ghost use Rattle.slicc_plan.specs.Prelude.{first_after, machines_of};
 ghost use Rattle.slicc_flow.specs.Prelude.{broken_flow, all_bodies, bodies_at, changes_of, circles_of, each_from, large_of};
 ghost use Rattle.slicc_flow.specs.Machines.{found_in};
 
@@ -12,15 +12,6 @@ use declared_types::{Scope, Scopes};
 use ruby_base::{NoMemory, Seq};
 use slicc_plan::Broken;
 use std::alloc::Global;
-
-fn machine_number(number: usize) -> Result<u16, NoMemory>
-    ensures { IfOk result (λ r. r ≡ number) }
-{
-    if number > u16::MAX as usize {
-        return Err(NoMemory);
-    }
-    Ok(number as u16)
-}
 
 fn add_machine(
     alloc: Global,
@@ -52,11 +43,12 @@ fn all_circles(
     first: Option<Broken>,
     machines: &[MachineBodies],
 ) -> Result<Option<Broken>, NoMemory>
+    requires { length machines.now ≤ 16 }
     ensures { IfOk result (λ r. r ≡ first_after first (each_from circles_of 0 machines.now)) }
 {
     let mut first = first;
     for (number, b) in machines.iter().enumerate() {
-        first = circles(alloc, first, machine_number(number)?, &b.functions)?;
+        first = circles(alloc, first, number as u16, &b.functions)?;
     }
     Ok(first)
 }
@@ -66,6 +58,7 @@ fn all_large(
     first: Option<Broken>,
     machines: &[MachineBodies],
 ) -> Result<Option<Broken>, NoMemory>
+    requires { length machines.now ≤ 16 }
     ensures { IfOk result (λ r. r ≡ first_after first (each_from large_of 0 machines.now)) }
 {
     let mut first = first;
@@ -73,7 +66,7 @@ fn all_large(
         first = large_bodies(
             alloc,
             first,
-            machine_number(number)?,
+            number as u16,
             &b.functions,
             &b.actions,
             &b.ports,
@@ -87,28 +80,23 @@ fn all_changes(
     first: Option<Broken>,
     machines: &[MachineBodies],
 ) -> Result<Option<Broken>, NoMemory>
+    requires { length machines.now ≤ 16 }
     ensures { IfOk result (λ r. r ≡ first_after first (each_from changes_of 0 machines.now)) }
 {
     let mut first = first;
     for (number, b) in machines.iter().enumerate() {
-        first = reading_changes(
-            alloc,
-            first,
-            machine_number(number)?,
-            &b.functions,
-            &b.ports,
-            b.state,
-        )?;
+        first = reading_changes(alloc, first, number as u16, &b.functions, &b.ports, b.state)?;
     }
     Ok(first)
 }
 
-/// The first broken rule after those of flow that these machines break.
+/// The first broken rule after those of flow that these machines break, of which a protocol within its limits has 16 at most.
 pub fn first_found(
     alloc: Global,
     first: Option<Broken>,
     machines: &[MachineBodies],
 ) -> Result<Option<Broken>, NoMemory>
+    requires { length machines.now ≤ 16 }
     ensures { IfOk result (λ r. r ≡ first_after first (found_in machines.now)) }
 {
     let first = all_circles(alloc, first, machines)?;
@@ -122,6 +110,7 @@ pub fn flow_broken(
     first: Option<Broken>,
     scopes: &Scopes<'_>,
 ) -> Result<Option<Broken>, NoMemory>
+    requires { length (machines_of scopes.now.trees.now) ≤ 16 }
     ensures { IfOk result (λ r. r ≡ first_after first (broken_flow scopes.now.trees.now)) }
 {
     let machines = all_bodies(alloc, scopes)?;

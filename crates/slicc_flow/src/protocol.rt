@@ -1,5 +1,6 @@
 //! Whether a protocol keeps the rules of flow, and what its transitions need.
-ghost use Rattle.std.specs.Prelude.{◌≡◌, IfOk};
+ghost use Rattle.std.specs.Prelude.{◌≡◌, ◌≤◌, length, IfOk};
+ghost use Rattle.slicc_plan.specs.Prelude.{machines_of};
 ghost use Rattle.slicc_flow.specs.Prelude.{IsFlow, IsFlowOrBroken};
 
 use crate::judge::{all_bodies, first_found};
@@ -12,6 +13,7 @@ use std::alloc::Global;
 
 // What transitions need, or the first rule of flow that is broken.
 fn flow_or_broken(alloc: Global, trees: &[Tree]) -> Result<Result<Flow, Broken>, NoMemory>
+    requires { length (machines_of trees.now) ≤ 16 }
     ensures { IfOk result (IsFlowOrBroken trees.now) }
 {
     let scopes = Scopes::new(alloc, trees)?;
@@ -24,6 +26,7 @@ fn flow_or_broken(alloc: Global, trees: &[Tree]) -> Result<Result<Flow, Broken>,
 
 /// What the transitions of a protocol with these trees need, or the first of the rules of flow that it breaks.
 pub fn flow_of_trees(alloc: Global, trees: &[Tree]) -> Result<Flow, Refusal>
+    requires { length (machines_of trees.now) ≤ 16 }
     ensures { IsFlow trees.now result }
 {
     match flow_or_broken(alloc, trees) {

@@ -1,5 +1,5 @@
 -- The lists of a machine of an accepted protocol are within its limits.
-use Rattle.std.proofs.Common.{◌≡◌, ◌++◌, ◌+◌, ◌-◌, ◌≤◌, ℕ, zero, suc, Bool, true, false, cond, Option, None, Some, List, [], ◌∷◌, All, filter, flat_map, length, map, slice_get, refl, arith, length-append}
+use Rattle.std.proofs.Common.{◌≡◌, ◌++◌, ◌+◌, ◌≤◌, ℕ, Bool, cond, Option, None, Some, List, [], ◌∷◌, All, filter, flat_map, length, map, slice_get, arith, length-append}
 use Rattle.std.specs.Prelude.{option_and_then}
 use Rattle.std.proofs.lemmas.List.Elements.{filter-append}
 use Rattle.ruby_value.specs.declared.kind.Kind.{Kind}
@@ -13,32 +13,9 @@ use Rattle.slicc_ast.specs.declared.tree.machine.Decl.{Decl}
 use Rattle.slicc_ast.specs.declared.tree.machine.Decl.TheVariants as decl
 use Rattle.slicc_ast.specs.declared.tree.machine.Literal.{Literal}
 use Rattle.slicc_ast.specs.declared.tree.machine.Machine.{Machine}
-use Rattle.slicc_plan.specs.Prelude.{IsAccepted, BufferIn, buffer_in, Declaration, machine, parameter, object, function, within, global_declarations, machine_declarations, machine_in, machines_of, named_declarations, wide_scopes, refused_field_types, all_declarations, beyond, beyond_in_body, beyond_in_declaration, beyond_in_machine, beyond_in_scope, built_in_enumerations, event_members, is_action, is_counted_function, is_counted_structure, is_enumeration, is_machine, is_object, is_port, is_sequencer, limit_passed, limits_passed, most_enumerations, most_machines, most_objects, most_of_each, most_ports, most_sequencers, most_structures, state_members, line_kind, reference_in, reference_of_kind, value_in, value_of_kind, unknown_built_ins, machine_bodies, attributes_of, symbols_of, action_symbol, buffer_of_place, buffer_symbol, buffer_symbols, function_symbol, function_with_body, in_port_symbol, machine_symbols, numbered_from, out_port_symbol, port_on_buffer, table_of_sort, table_symbol, table_in, names_twice_declared, plain_kind, KnownType, type_in, unknown_types, bad_values, HasNumbers}
-use Rattle.slicc_plan.proofs.Room.{left_none, mapped_at, none_at, right_none}
+use Rattle.slicc_plan.specs.Prelude.{IsAccepted, BufferIn, buffer_in, Declaration, parameter, object, function, within, machine_declarations, machines_of, named_declarations, is_action, is_counted_function, is_object, is_port, line_kind, reference_in, reference_of_kind, value_in, value_of_kind, attributes_of, symbols_of, action_symbol, buffer_of_place, buffer_symbol, buffer_symbols, function_symbol, function_with_body, in_port_symbol, machine_symbols, numbered_from, out_port_symbol, port_on_buffer, table_of_sort, table_symbol, table_in, plain_kind, KnownType, type_in, HasNumbers}
+use Rattle.slicc_plan.proofs.Few.{Limits, at_most, few_machines, machine_limited}
 use Rattle.slicc_plan.proofs.Machines.{all_machines, symbols_counted}
-
--- what isn't beyond a limit
-
-within_limit : (limit : ℕ) (ds : List Declaration) → limit_passed (slice_get ds limit) ≡ [] → length ds ≤ limit
-within_limit limit [] e = omega arith
-within_limit zero (d ∷ ds) e = cc
-within_limit (suc limit) (d ∷ ds) e = let rest : length ds ≤ limit = within_limit limit ds e in omega (arith, rest)
-
-counted_as : (p : Declaration → Bool) (d : Declaration) → length (filter p (d ∷ [])) ≡ cond (p d) 1 0
-counted_as p d = by_test (p d)
-  where
-    by_test : (v : Bool) → length (cond v (d ∷ []) []) ≡ cond v 1 0
-    by_test true = refl
-    by_test false = refl
-
--- what is made of declarations, one of each at most, where they are counted
-at_most : {Y : Type 0} (p : Declaration → Bool) (f : Declaration → List Y) → ((d : Declaration) → length (f d) ≤ cond (p d) 1 0) → (ds : List Declaration) → length (flat_map f ds) ≤ length (filter p ds)
-at_most p f h [] = omega arith
-at_most p f h (d ∷ ds) =
-    let made : length (flat_map f (d ∷ ds)) ≡ length (f d) + length (flat_map f ds) = length-append (f d) (flat_map f ds) in
-    let split : filter p (d ∷ ds) ≡ filter p (d ∷ []) ++ filter p ds = filter-append p (d ∷ []) ds in
-    let counts : length (filter p (d ∷ ds)) ≡ length (filter p (d ∷ [])) + length (filter p ds) = rw split (length-append (filter p (d ∷ [])) (filter p ds)) in
-    omega (arith, made, counts, counted_as p d, h d, at_most p f h ds)
 
 -- the same of what stands between a machine's braces
 at_most_numbered : {Y : Type 0} (p : Declaration → Bool) (f : ℕ → Decl → List Y) → ((n : ℕ) (d : Decl) → length (f n d) ≤ length (filter p (named_declarations d))) → (n : ℕ) (ds : List Decl) → length (numbered_from f n ds) ≤ length (filter p (flat_map named_declarations ds))
@@ -120,54 +97,6 @@ action_each : (n : ℕ) (d : Decl) → length (action_symbol n d) ≤ length (fi
 action_each n (decl.Action d) = omega arith
 action_each n _ = omega arith
 
--- the limits that an accepted protocol keeps
-
-no_limit_passed : (trees : List Tree) → IsAccepted trees → limits_passed trees ≡ []
-no_limit_passed trees h =
-    right_none (names_twice_declared trees ++ unknown_types trees) (limits_passed trees)
-    (left_none (names_twice_declared trees ++ unknown_types trees ++ limits_passed trees) (refused_field_types trees)
-    (left_none (names_twice_declared trees ++ unknown_types trees ++ limits_passed trees ++ refused_field_types trees) (bad_values trees)
-    (left_none (names_twice_declared trees ++ unknown_types trees ++ limits_passed trees ++ refused_field_types trees ++ bad_values trees) (unknown_built_ins trees) h.of_declarations)))
-
-scopes_kept : (trees : List Tree) → IsAccepted trees → flat_map (beyond_in_scope trees) (wide_scopes trees) ≡ []
-scopes_kept trees h =
-    right_none
-    (beyond most_machines (filter is_machine (global_declarations trees)) ++ beyond (most_enumerations - built_in_enumerations) (filter is_enumeration (all_declarations trees)) ++ beyond most_structures (filter is_counted_structure (all_declarations trees)))
-    (flat_map (beyond_in_scope trees) (wide_scopes trees)) (no_limit_passed trees h)
-
-machine_kept : (trees : List Tree) (k : ℕ) (m : Machine) → IsAccepted trees → slice_get (machines_of trees) k ≡ Some m → beyond_in_machine trees m ≡ []
-machine_kept trees k m h at =
-    right_none (flat_map beyond_in_declaration (machine_declarations m)) (beyond_in_machine trees m)
-    (none_at (beyond_in_scope trees) (wide_scopes trees) (suc k) (within m) (scopes_kept trees h) (mapped_at within (machines_of trees) k m at))
-
--- of a machine's own limits
-record Limits (m : Machine) : Type 0 where
-  actions : length (filter is_action (machine_declarations m)) ≤ 256
-  functions : length (filter is_counted_function (machine_declarations m)) ≤ 256
-  ports : length (filter is_port (machine_declarations m)) ≤ 32
-  objects : length (filter is_object (machine_declarations m)) ≤ 64
-
-limits_of : (trees : List Tree) (m : Machine) → beyond_in_machine trees m ≡ [] → Limits m
-limits_of trees m e =
-    let states = beyond most_of_each (state_members m) in
-    let events = beyond most_of_each (event_members m) in
-    let actions = beyond most_of_each (filter is_action (machine_declarations m)) in
-    let functions = beyond most_of_each (filter is_counted_function (machine_declarations m)) in
-    let ports = beyond most_ports (filter is_port (machine_declarations m)) in
-    let objects = beyond most_objects (filter is_object (machine_declarations m)) in
-    let sequencers = beyond most_sequencers (filter (is_sequencer trees m) (machine_declarations m)) in
-    let to_sequencers : states ++ events ++ actions ++ functions ++ ports ++ objects ++ sequencers ≡ [] = left_none (states ++ events ++ actions ++ functions ++ ports ++ objects ++ sequencers) (flat_map beyond_in_body (machine_bodies m)) e in
-    let to_objects : states ++ events ++ actions ++ functions ++ ports ++ objects ≡ [] = left_none (states ++ events ++ actions ++ functions ++ ports ++ objects) sequencers to_sequencers in
-    let to_ports : states ++ events ++ actions ++ functions ++ ports ≡ [] = left_none (states ++ events ++ actions ++ functions ++ ports) objects to_objects in
-    let to_functions : states ++ events ++ actions ++ functions ≡ [] = left_none (states ++ events ++ actions ++ functions) ports to_ports in
-    let to_actions : states ++ events ++ actions ≡ [] = left_none (states ++ events ++ actions) functions to_functions in
-    record {
-      actions = within_limit 256 (filter is_action (machine_declarations m)) (right_none (states ++ events) actions to_actions);
-      functions = within_limit 256 (filter is_counted_function (machine_declarations m)) (right_none (states ++ events ++ actions) functions to_functions);
-      ports = within_limit 32 (filter is_port (machine_declarations m)) (right_none (states ++ events ++ actions ++ functions) ports to_ports);
-      objects = within_limit 64 (filter is_object (machine_declarations m)) (right_none (states ++ events ++ actions ++ functions ++ ports) objects to_objects);
-    }
-
 machine_counted : (trees : List Tree) (k : ℕ) (m : Machine) → Limits m → HasNumbers (machine_symbols trees k m)
 unfolding machine_symbols
 machine_counted trees k m l =
@@ -181,29 +110,14 @@ machine_counted trees k m l =
       in_ports = omega (arith, at_most_numbered is_port (in_port_symbol buffers) (in_port_each buffers) 0 m.declarations, in_machine is_port m, l.ports);
       out_ports = omega (arith, at_most_numbered is_port (out_port_symbol buffers) (out_port_each buffers) 0 m.declarations, in_machine is_port m, l.ports);
       functions = omega (arith, at_most_numbered is_counted_function (function_symbol trees m) (function_each trees m) 0 m.declarations, in_machine is_counted_function m, l.functions);
-      actions = omega (arith, at_most_numbered is_action action_symbol action_each 0 m.declarations, in_machine is_action m, l.actions);
+      actions = omega (arith, at_most_numbered is_action action_symbol action_each 0 m.declarations, in_machine is_action m, l.few.actions);
     }
 
-machine_each : (d : Declaration) → length (machine_in d) ≤ cond (is_machine d) 1 0
-machine_each (machine d) = omega arith
-machine_each _ = omega arith
-
-few_machines : (trees : List Tree) → IsAccepted trees → length (machines_of trees) ≤ 16
-few_machines trees h =
-    let machines = beyond most_machines (filter is_machine (global_declarations trees)) in
-    let enumerations = beyond (most_enumerations - built_in_enumerations) (filter is_enumeration (all_declarations trees)) in
-    let structures = beyond most_structures (filter is_counted_structure (all_declarations trees)) in
-    let kept : machines ≡ [] =
-    left_none machines enumerations
-    (left_none (machines ++ enumerations) structures
-    (left_none (machines ++ enumerations ++ structures) (flat_map (beyond_in_scope trees) (wide_scopes trees)) (no_limit_passed trees h))) in
-    omega (arith, at_most is_machine machine_in machine_each (global_declarations trees), within_limit 16 (filter is_machine (global_declarations trees)) kept)
-
 pub machines_counted : (trees : List Tree) → IsAccepted trees → length (symbols_of trees).machines ≤ 16
-machines_counted trees h = omega (arith, symbols_counted trees, few_machines trees h)
+machines_counted trees h = let few = few_machines trees h.of_declarations in omega (arith, symbols_counted trees, few.machines)
 
 pub machine_has_numbers : (trees : List Tree) (k : ℕ) (m : Machine) → IsAccepted trees → slice_get (machines_of trees) k ≡ Some m → HasNumbers (machine_symbols trees k m)
-machine_has_numbers trees k m h at = machine_counted trees k m (limits_of trees m (machine_kept trees k m h at))
+machine_has_numbers trees k m h at = machine_counted trees k m (machine_limited trees k m h.of_declarations at)
 
 pub lists_counted : (trees : List Tree) → IsAccepted trees → All HasNumbers (symbols_of trees).machines
 lists_counted trees h = all_machines HasNumbers trees (λ k m at. machine_has_numbers trees k m h at)

@@ -1,4 +1,6 @@
 mod Accepted
+pub mod Few
+pub mod NoPairShared
 pub mod Firsts
 mod MachinesFound
 pub mod NoReferences
@@ -11,13 +13,17 @@ pub mod SetupNetworks
 mod SetupParts
 mod Subjects
 pub mod Counted
+pub mod CountsOfSymbols
 pub mod Machines
 pub mod Messages
 pub mod Names
 mod Networks
+mod NumberedTypes
 pub mod Numbering
+mod Pairs
 pub mod Reading
 mod Received
 mod Rooms
 pub mod There
+pub mod TwoTransitions
 pub mod Types

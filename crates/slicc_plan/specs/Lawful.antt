@@ -1,4 +1,4 @@
--- What holds for the machines of accepted protocols, as symbols.
+-- What holds for accepted protocols and their machines, as symbols.
 use Rattle.std.specs.Prelude.{ℕ, ◌≡◌, ◌≤◌, ◌==◌, All, Bool, false, IfSome, List, length, option_and_then}
 use Rattle.std.specs.List.{count_by}
 use Rattle.ruby_value.specs.declared.setup.BufferPlace.{BufferPlace}
@@ -8,6 +8,9 @@ use Rattle.ruby_symbols.specs.declared.machine.MachineSymbols.{MachineSymbols}
 use Rattle.ruby_symbols.specs.declared.machine.TableSort.{TableSort}
 use Rattle.ruby_symbols.specs.declared.machine.TableSort.TheVariants as sort
 use Rattle.ruby_symbols.specs.declared.machine.TableSymbol.{TableSymbol}
+use Rattle.ruby_symbols.specs.declared.symbols.Symbols.{Symbols}
+use Rattle.ruby_symbols.specs.declared.types.EnumerationSymbol.{EnumerationSymbol}
+use Rattle.ruby_symbols.specs.declared.types.StructureSymbol.{StructureSymbol}
 use Rattle.slicc_ast.specs.declared.tree.item.Tree.{Tree}
 use Rattle.slicc_plan.specs.MessageTypes.{network_type}
 use Rattle.ruby_value.specs.Prelude.{network_of}
@@ -23,6 +26,13 @@ pub record HasNumbers (m : MachineSymbols) : Type 0 where
   pub out_ports : length m.out_ports ≤ 32
   pub functions : length m.functions ≤ 256
   pub actions : length m.actions ≤ 256
+
+-- so are a protocol's types, those that are built in among them, the members of each enumeration and the fields of each structure
+pub record HasNumberedTypes (s : Symbols) : Type 0 where
+  pub enumerations : length s.enumerations ≤ 16384
+  pub structures : length s.structures ≤ 16385
+  pub members : All (λ (e : EnumerationSymbol). length e.members ≤ 65535) s.enumerations
+  pub fields : All (λ (t : StructureSymbol). length t.fields ≤ 64) s.structures
 
 abbrev pub HasRoom : TableSort → Type 0
 HasRoom sort.Cache = Unit {0}

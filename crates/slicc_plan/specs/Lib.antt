@@ -12,9 +12,11 @@ pub mod BuiltInCalls
 pub mod CallTypes
 pub mod CallsBetween
 pub mod Counts
+pub mod CountsOfSymbols
 pub mod Declarations
 pub mod Environment
 pub mod ExpressionTypes
+pub mod Few
 pub mod FieldTypes
 pub mod InitialFields
 pub mod JudgedStatements

@@ -13,9 +13,11 @@ pub use Rattle.slicc_plan.specs.BuiltInCalls.{Call, Change, anywhere, calls, in_
 pub use Rattle.slicc_plan.specs.CallTypes.{Given, Typed, a_field, answer_of, broken_in, built_in_call, built_in_named, built_in_receiver, call_named, call_on, call_unless, declared_call, events_type, formal_wanted, found_index, found_method, function_call, index_call, is_call_on, is_told, line_wanted, may_write, may_write_field, method_call, named_call, no_field, no_place, not_called, not_writable, plain, plain_call, receiver_number, receiver_of, states_type, structure_on, table_receiver, type_of_line, value_receiver, wanted_by, wanted_for, wrong_argument, wrong_arguments, wrong_change, wrong_count, wrong_line_type, wrong_new_line}
 pub use Rattle.slicc_plan.specs.CallsBetween.{IsReaching, Reaches, call_circles, calls_at, calls_or_none, circle_at, circles_among, circles_from, directly, is_reached, reaches_within, through}
 pub use Rattle.slicc_plan.specs.Counts.{counts_of, is_written, numbers_below, pairs_of}
+pub use Rattle.slicc_plan.specs.CountsOfSymbols.{HasCounts, counts_by, events_by, member_count, pairs_by, states_by, transition_pairs}
 pub use Rattle.slicc_plan.specs.Declarations.{Declaration, Scope, action, declared_in, everywhere, first_named, formal, function, function_name, function_span, global_declarations, is_external, is_named, is_text, item_declarations, local, machine, machine_declarations, machine_in, machine_names, machines_of, member, member_name, name_of, named_declarations, object, parameter, place_of, state, states, symbol, wide_scopes, within}
 pub use Rattle.slicc_plan.specs.Environment.{BodySort, Bound, Environment, action_names, binding, bound_as, declared_value, fixed, is_allowed, known_in_bodies, line_name, meaning_named, meaning_of_found, names_everywhere, no_type, of_action, of_function, of_port, type_named, value_named, value_outside, wrong_meaning, wrong_type_name, wrong_value_name}
 pub use Rattle.slicc_plan.specs.ExpressionTypes.{arguments_typed, broken_where, built_in_field, cast_meaning, cast_to, enumeration_members, field_declared, field_in, fields_scope, found_field, from_operand, given_at, is_enumeration_nature, joined, member_among, member_type, operands_typed, operator_type, span_of, suffix_typed, suffixes_typed, typed, variable_type, wanted_left, wanted_right, written_as}
+pub use Rattle.slicc_plan.specs.Few.{HasFewMachines, HasFewParts, HasFewTypes}
 pub use Rattle.slicc_plan.specs.FieldTypes.{FieldIn, all_fields, field_type, fields_of, fields_within, may_be_field, refused_field, refused_field_types, refused_for}
 pub use Rattle.slicc_plan.specs.InitialFields.{field_kind, field_kinds, initial_fields, initial_of, initial_value, member_written, message_kinds, request_kinds, structure_fields, value_by, value_written}
 pub use Rattle.slicc_plan.specs.JudgedStatements.{after, assigned, body_judged, broken_latency, checked, declared, enqueued, if_judged, in_enqueue, in_peek, in_type, is_peek_allowed, judged, local_meaning, others_judged, otherwise_judged, out_type, peeked, returned, row_judged, stalled, statements_judged, wrong_local_type, wrong_message_type}
@@ -48,5 +50,5 @@ pub use Rattle.slicc_plan.specs.TypeNumbers.{ScopedDeclaration, built_in_kind, d
 pub use Rattle.slicc_plan.specs.Types.{KnownType, built_in, declared_type, enumerated, external_type, global_type, is_built_in, nature_in, structure_type, structured, table_named, table_or_none, type_in, type_of_found, type_where}
 pub use Rattle.slicc_plan.specs.UnknownTypes.{TypeUse, formal_use, formal_uses, function_uses, has_no_body, is_unknown, member_uses, state_use, unknown_in, unknown_types, unknown_use, use_of, uses_in}
 pub use Rattle.slicc_plan.specs.Values.{bad_attributes, bad_buffer_attributes, bad_entries, bad_field_default, bad_field_defaults, bad_literal, bad_object_attributes, bad_own_default, bad_value, bad_values, bad_values_in, bad_values_of, default_name, default_names, is_built_in_default, is_either, is_member_word, is_number_within, is_right_default, is_right_literal, literal_span}
-pub use Rattle.slicc_plan.specs.Lawful.{CarriesOneMessage, HasEntries, HasNetworks, HasNumbers, ReceivesOnce, is_from}
+pub use Rattle.slicc_plan.specs.Lawful.{CarriesOneMessage, HasEntries, HasNetworks, HasNumberedTypes, HasNumbers, ReceivesOnce, is_from}
 pub use Rattle.slicc_plan.specs.Numbering.{HasOneNumbering, HasSymbols, need_by, rows_by}

@@ -5,6 +5,7 @@ ghost use Rattle.slicc_plan.specs.Counts.{counts_of};
 ghost use Rattle.slicc_plan.specs.Declarations.{machines_of};
 ghost use Rattle.slicc_plan.specs.SymbolsOf.{symbols_of};
 
+use crate::counting::counts_of_symbols;
 use crate::machine::machine_at;
 use crate::{Counts, NoMemory};
 use ruby_base::Seq;
@@ -17,11 +18,10 @@ use std::sync::Arc;
 
 /// A protocol that keeps all rules. It keeps the trees of its files in the order of reading, and a contract sees it as them: all
 /// else in it is read off them. Its symbols, that is its types and machines with their states, buffers, ports, functions and
-/// transitions, are made once, and counted once. Copies share trees and symbols.
+/// transitions, are made once. Copies share trees and symbols.
 pub struct Plan {
     trees: Arc<Seq<Tree>, Global>,
     symbols: Arc<Symbols, Global>,
-    counts: Counts,
 }
 
 // It is written out, so that a crate above proves a call where a plan goes, and not how each tree and symbol goes.
@@ -30,7 +30,6 @@ impl Drop for Plan {
         let Plan {
             trees: _,
             symbols: _,
-            counts: _,
         } = self;
     }
 }
@@ -40,7 +39,6 @@ impl Model for Plan {
     ghost use Rattle.slicc_ast.specs.declared.tree.item.Tree.{Tree};
     ghost use Rattle.std.specs.Prelude.{◌≡◌};
     ghost use Rattle.slicc_plan.specs.AllRules.{IsAccepted};
-    ghost use Rattle.slicc_plan.specs.Counts.{counts_of};
     ghost use Rattle.slicc_plan.specs.SymbolsOf.{symbols_of};
     ghost use Rattle.std.specs.Coded.{coded_list};
     ghost use Rattle.slicc_ast.specs.contracts.tree.item.Tree as tree;
@@ -51,26 +49,19 @@ impl Model for Plan {
 
     ghost view = { λ p. p.trees.value };
 
-    ghost invariant = { λ p. IsAccepted p.trees.value × (p.symbols.value ≡ symbols_of p.trees.value) × (p.counts ≡ counts_of p.trees.value) };
+    ghost invariant = { λ p. IsAccepted p.trees.value × (p.symbols.value ≡ symbols_of p.trees.value) };
 }
 
 impl Plan {
-    /// The plan of trees that keep all rules, whose symbols these are, and in which there is as much as these counts say.
-    pub fn of(
-        alloc: Global,
-        trees: Seq<Tree>,
-        symbols: Arc<Symbols, Global>,
-        counts: Counts,
-    ) -> Result<Plan, NoMemory>
+    /// The plan of trees that keep all rules, whose symbols these are.
+    pub fn of(alloc: Global, trees: Seq<Tree>, symbols: Symbols) -> Result<Plan, NoMemory>
         requires accepted { IsAccepted trees }
-        requires symbols { symbols.value ≡ symbols_of trees }
-        requires counts { counts ≡ counts_of trees }
+        requires symbols { symbols ≡ symbols_of trees }
         ensures { IfOk result (λ plan. plan ≡ trees) }
     {
         Ok(Plan {
             trees: Arc::new(alloc, trees)?,
-            symbols,
-            counts,
+            symbols: Arc::new(alloc, symbols)?,
         })
     }
 
@@ -105,7 +96,6 @@ pub fn copy_plan(plan: &Plan) -> Result<Plan, NoMemory>
     Ok(Plan {
         trees: Arc::try_clone(&plan.trees)?,
         symbols: Arc::try_clone(&plan.symbols)?,
-        counts: plan.counts,
     })
 }
 
@@ -114,7 +104,8 @@ pub fn copy_plan(plan: &Plan) -> Result<Plan, NoMemory>
 pub fn counts(plan: &Plan) -> Counts
     ensures { result ≡ counts_of plan.now }
 {
-    plan.counts
+    let _accepted = plan.trees();
+    counts_of_symbols(plan.symbols())
 }
 
 /// Whether two plans are those of the same protocol: as many files, whose trees are alike in the order of reading, spans left

@@ -3,7 +3,7 @@ ghost use Rattle.std.specs.Prelude.{◌≡◌, ◌≤◌, ℕ, List, All, length
 ghost use Rattle.ruby_symbols.specs.declared.machine.MachineSymbols.{MachineSymbols};
 ghost use Rattle.slicc_ast.specs.declared.tree.item.Tree.{Tree};
 ghost use Rattle.slicc_ast.specs.declared.tree.machine.Machine.{Machine};
-ghost use Rattle.slicc_plan.specs.Prelude.{IsAccepted, action_bodies, rows, symbols_of, needs, CarriesOneMessage, HasEntries, HasNumbers, HasNetworks, ReceivesOnce, HasOneNumbering, HasSymbols, need_by, rows_by};
+ghost use Rattle.slicc_plan.specs.Prelude.{HasCounts, IsAccepted, action_bodies, counts_by, counts_of, rows, symbols_of, needs, CarriesOneMessage, HasEntries, HasNumberedTypes, HasNumbers, HasNetworks, ReceivesOnce, HasOneNumbering, HasSymbols, need_by, rows_by};
 
 /// There are at most 16 machines.
 pub fn machines_are_few()
@@ -13,6 +13,11 @@ pub fn machines_are_few()
 /// No list of a machine is longer than its numbers go, so that a name isn't found only where it isn't there.
 pub fn lists_have_numbers()
     ensures { (trees : List Tree) → IsAccepted trees → All HasNumbers (symbols_of trees).machines }
+{}
+
+/// Nor is the list of enumerations, that of structures, that of an enumeration's members or that of a structure's fields.
+pub fn types_have_numbers()
+    ensures { (trees : List Tree) → IsAccepted trees → HasNumberedTypes (symbols_of trees) }
 {}
 
 /// A TBE table has 1 to 256 entries where no topology says how many.
@@ -52,4 +57,14 @@ pub fn needs_are_of_symbols()
     ensures { (trees : List Tree) (k : ℕ) (m : Machine) (symbols : MachineSymbols) → IsAccepted trees
         → HasSymbols trees k m symbols → (transition table : ℕ)
         → needs trees k transition table ≡ need_by symbols (action_bodies trees m) transition table }
+{}
+
+/// What a protocol has is counted from its symbols: the pairs of each transition on its own, since no two share one.
+pub fn counts_are_of_symbols()
+    ensures { (trees : List Tree) → IsAccepted trees → counts_of trees ≡ counts_by (symbols_of trees) }
+{}
+
+/// There are so few machines, states, events and pairs that their sums are numbers of 64 bits.
+pub fn symbols_have_counts()
+    ensures { (trees : List Tree) → IsAccepted trees → HasCounts (symbols_of trees) }
 {}

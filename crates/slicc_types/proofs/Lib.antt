@@ -1,3 +1,2 @@
 pub mod Lists
 mod Phases
-mod SharedPairs

@@ -1,9 +1,9 @@
 -- What is told, phase by phase.
-use Rattle.std.proofs.Common.{◌≡◌, Option, None, Some, Ok, Err, List, []}
+use Rattle.std.proofs.Common.{◌≡◌, Option, None, Some, Ok, Err, List, [], map}
 use Rattle.slicc_ast.specs.declared.tree.item.Tree.{Tree}
 use Rattle.slicc_plan.specs.declared.broken.Broken.{Broken}
-use Rattle.slicc_plan.specs.declared.row.Counts.{Counts}
-use Rattle.slicc_plan.specs.Prelude.{of_bodies, of_declarations, of_machines, broken_bodies, broken_declarations, broken_machines, counts_of, first_of}
+use Rattle.slicc_plan.specs.declared.row.Written.{Written}
+use Rattle.slicc_plan.specs.Prelude.{of_bodies, of_declarations, of_machines, broken_bodies, broken_declarations, broken_machines, first_of, machines_of, written_of}
 use Rattle.slicc_names.proofs.FirstOfAll.{is_none, is_some}
 use Rattle.slicc_types.specs.Prelude.{IsJudged}
 
@@ -17,11 +17,9 @@ pub told_by_machines : (trees : List Tree) {first : Option Broken} {b : Broken} 
 told_by_machines trees {first} {b} declarations bodies same some =
     of_machines declarations bodies (is_some (broken_machines trees) first b same some)
 
-pub keeps_and_counts : (trees : List Tree) {first : Option Broken} {counts : Counts} → broken_declarations trees ≡ [] → broken_bodies trees ≡ [] → first ≡ first_of (broken_machines trees) → first ≡ None
-    → (broken_machines trees ≡ [] → counts ≡ counts_of trees) → IsJudged trees (Ok counts)
-keeps_and_counts trees {first} {counts} declarations bodies same none counted =
-    let machines = is_none (broken_machines trees) first same none in
-    record {
-      accepted = record { of_declarations = declarations; of_bodies = bodies; of_machines = machines };
-      counted = counted machines;
-    }
+pub keeps_all : (trees : List Tree) {first : Option Broken} {written : List (List Written)} → broken_declarations trees ≡ [] → broken_bodies trees ≡ [] → first ≡ first_of (broken_machines trees) → first ≡ None
+    → written ≡ map written_of (machines_of trees) → IsJudged trees (Ok written)
+keeps_all trees {first} {written} declarations bodies same none are = record {
+  accepted = record { of_declarations = declarations; of_bodies = bodies; of_machines = is_none (broken_machines trees) first same none };
+  are = are;
+}

@@ -1,2 +1,2 @@
 -- The definitions that other files name, from one place.
-pub use Rattle.slicc_types.specs.Judged.{IsJudged, IsKept, IsResolved}
+pub use Rattle.slicc_types.specs.Judged.{IsJudged, IsKept, IsResolved, IsWritten}

@@ -5,7 +5,4 @@
 mod machines;
 mod resolving;
 
-pub use body_rules::broken_bodies;
-pub use machines::broken_machines;
-pub use resolving::{Kept, resolve, told};
-pub use slicc_names::broken_declarations;
+pub use resolving::resolve;

@@ -1,3 +1,4 @@
 pub mod DefaultWords
 pub mod Lists
+pub mod Small
 mod DefaultMembers

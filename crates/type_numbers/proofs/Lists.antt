@@ -1,8 +1,8 @@
 -- Lists of what is seen, and the parts of what a machine declares.
-use Rattle.std.proofs.Common.{◌≡◌, ◌++◌, ◌+◌, ◌<◌, ℕ, Bool, Bor, not, cond, length, Option, None, Some, List, [], ◌∷◌, filter, flat_map, map, refl, sym, ◌∙◌, ap}
+use Rattle.std.proofs.Common.{◌≡◌, ◌++◌, ◌+◌, ◌<◌, ◌≤◌, ℕ, zero, suc, All, Bool, Bor, not, cond, length, Option, None, Some, List, [], ◌∷◌, filter, flat_map, map, refl, slice_index_or, subst, sym, ◌∙◌, ap, arith}
 use Rattle.std.specs.Prelude.{IfSome, position}
 use Rattle.std.specs.List.{prefix_len}
-use Rattle.std.proofs.lemmas.List.Elements.{filter-append}
+use Rattle.std.proofs.lemmas.List.Elements.{All-head, All-tail, filter-append}
 use Rattle.std.proofs.lemmas.List.{length-map, map-append}
 use Rattle.std.proofs.lemmas.List.Quantifiers.{position-Some}
 use Rattle.slicc_ast.specs.declared.tree.machine.Machine.{Machine}
@@ -56,6 +56,21 @@ pub position_within : {X : Type 0} (p : X → Bool) (xs : List X) (o : Option �
 position_within p xs None e = tt
 position_within p [] (Some n) e = absurd (cc e)
 position_within p (x ∷ xs) (Some n) e = (position-Some p (x ∷ xs) n x (sym e)).0
+
+-- which has a number of 16 bits, where the list is short
+pub numbered_within : (o : Option ℕ) (n : ℕ) → n ≤ 65535 → IfSome o (λ k. k < n) → IfSome o (λ k. k ≤ 65535)
+numbered_within None n few h = tt
+numbered_within (Some k) n few h = omega arith
+
+-- what is seen is as much as there is
+pub few_seen : {X Y : Type 0} (f : X → Y) (xs : List X) (ys : List Y) (n : ℕ) → map f xs ≡ ys → length ys ≤ n → length xs ≤ n
+few_seen f xs ys n e few = omega (arith, length-map xs f, ap length e)
+
+-- what holds of all that is seen holds of one
+pub seen_at : {X Y : Type 0} (P : Y → Type 0) (f : X → Y) (xs : List X) (n : ℕ) (x : X) → All P (map f xs) → n < length xs → x ≡ slice_index_or xs n x → P (f x)
+seen_at P f [] n x all below is = absurd (omega arith)
+seen_at P f (y ∷ ys) zero x all below is = subst (λ z. P (f z)) (sym is) (All-head P (f y) (map f ys) all)
+seen_at P f (y ∷ ys) (suc n) x all below is = seen_at P f ys n x (All-tail P (f y) (map f ys) all) (omega arith) is
 
 pub machine_texts : (ms : List (Bor Machine)) → map (λ (m : Bor Machine). m.now.name.text) ms ≡ map (λ (m : Machine). m.name.text) (map (λ (m : Bor Machine). m.now) ms)
 machine_texts [] = refl

@@ -1,7 +1,8 @@
--- Declarations of types, as the definitions of a protocol's meaning see them, and the lists by which types are numbered.
+-- Declarations of types, as the definitions of a protocol's meaning see them, and the lists by which the types of an accepted
+-- protocol are numbered.
 use Rattle.std.specs.Prelude.{◌≡◌, ◌≤◌, ℕ, Bool, List, length, map}
 use Rattle.slicc_ast.specs.declared.tree.item.Tree.{Tree}
-use Rattle.slicc_plan.specs.Prelude.{Declaration, machines_of, is_counted_structure, is_enumeration, ScopedDeclaration, declared_enumerations, declared_structures, own_default}
+use Rattle.slicc_plan.specs.Prelude.{IsAccepted, Declaration, machines_of, is_counted_structure, is_enumeration, ScopedDeclaration, declared_enumerations, declared_structures, own_default}
 use Rattle.declared_types.specs.Prelude.{declaration_of, scope_of}
 use Rattle.type_numbers.specs.declared.numbering.Lists.{Lists}
 use Rattle.type_numbers.specs.declared.numbering.Scoped.{Scoped}
@@ -33,13 +34,14 @@ pub record AreLists (trees : List Tree) (lists : Lists) : Type 0 where
   pub enumerations : map scoped_of lists.enumerations ≡ declared_enumerations trees
   pub structures : map scoped_of lists.structures ≡ declared_structures trees
   pub defaults : lists.defaults ≡ map default_of (declared_enumerations trees)
-  pub few_enumerations : length lists.enumerations ≤ 65000
-  pub few_structures : length lists.structures ≤ 65000
+  pub few_enumerations : length lists.enumerations ≤ 16380
+  pub few_structures : length lists.structures ≤ 16384
 
 pub record AreNumbered (types : TypeNumbers) : Type 0 where
+  pub accepted : IsAccepted (trees_of types)
   pub machines : map (λ m. m.now) types.machines ≡ machines_of (trees_of types)
   pub enumerations : map scoped_of types.enumerations ≡ declared_enumerations (trees_of types)
   pub structures : map scoped_of types.structures ≡ declared_structures (trees_of types)
   pub defaults : types.defaults ≡ map default_of (declared_enumerations (trees_of types))
-  pub few_enumerations : length types.enumerations ≤ 65000
-  pub few_structures : length types.structures ≤ 65000
+  pub few_enumerations : length types.enumerations ≤ 16380
+  pub few_structures : length types.structures ≤ 16384

@@ -1,17 +1,16 @@
 //! What the declarations of buffers say: their order, where their messages come from or go to, and the types and receivers of these.
-ghost use Rattle.std.specs.Prelude.{◌≡◌, IfOk, codes, Some, filter, position, find, map};
+ghost use Rattle.std.specs.Prelude.{◌≡◌, IfSome, codes, Some, filter, position, find, map};
 ghost use Rattle.std.specs.Option.{option_copied, option_map};
 ghost use Rattle.slicc_plan.specs.Prelude.{attributes_of, buffer_place, is_ordered, member, is_field, receivers_field, is_destination, is_on, is_on_network, port_message};
 ghost use Rattle.declared_types.specs.Prelude.{declaration_of, type_of, scope_of};
 ghost use Rattle.machine_table.specs.Prelude.{place_seen, buffer_seen, port_seen};
-ghost use Rattle.type_numbers.specs.Prelude.{trees_of, network_type_among, own_type_among, type_among};
+ghost use Rattle.type_numbers.specs.Prelude.{IsOnNetwork, IsOfFewFields, trees_of, network_type_among, own_type_among, type_among};
 ghost use Rattle.slicc_ast.specs.declared.tree.declaration.Member.{Member};
 
 use crate::numbering::TypeNumbers;
 use crate::numbers::kept;
 use declared_types::{Declared, KnownType, Scope, Scopes, has_attribute};
 use machine_table::{BufferIn, Place, PortOn, is_destination, is_mandatory};
-use ruby_base::NoMemory;
 use ruby_value::BufferPlace;
 use slicc_ast::tree::{Member, Pairs};
 use slicc_plan::BuiltInType;
@@ -36,37 +35,23 @@ pub fn is_ordered(d: Declared<'_>) -> bool
     }
 }
 
-// The number of a network as setups keep it. A protocol's are below 16.
-fn kept_network(network: u64) -> Result<u16, NoMemory>
-    ensures { IfOk result (λ kept. kept ≡ network) }
-{
-    if network > u16::MAX as u64 {
-        return Err(NoMemory);
-    }
-    Ok(network as u16)
-}
-
 /// Where the messages of a buffer of this place come from or go to, where they are of this type.
 pub fn buffer_place<'a>(
     types: &TypeNumbers<'a>,
     place: Place,
     t: Option<KnownType<'a>>,
-) -> Result<BufferPlace, NoMemory>
-    ensures { IfOk result (λ p. p ≡ buffer_place (trees_of types.now) (place_seen place) (option_map type_of t.entry)) }
+) -> BufferPlace
+    requires place { IsOnNetwork (place_seen place) }
+    requires fields { IfSome (option_map type_of t) IsOfFewFields }
+    ensures { result ≡ buffer_place (trees_of types.now) (place_seen place) (option_map type_of t.entry) }
 {
     match place {
-        Place::Own => Ok(BufferPlace::Local),
-        Place::ToNetwork(v) => {
-            let network = kept_network(v)?;
-            let destination = receivers_field(types, t)?;
-            Ok(BufferPlace::To {
-                network,
-                destination,
-            })
-        }
-        Place::FromNetwork(v) => Ok(BufferPlace::From {
-            network: kept_network(v)?,
-        }),
+        Place::Own => BufferPlace::Local,
+        Place::ToNetwork(v) => BufferPlace::To {
+            network: v as u16,
+            destination: receivers_field(types, t),
+        },
+        Place::FromNetwork(v) => BufferPlace::From { network: v as u16 },
     }
 }
 
@@ -86,24 +71,23 @@ fn destination_among<'a>(scopes: &Scopes<'a>, scope: Scope<'a>, members: &[Membe
         .position(|m| is_destination(scopes, scope, m))
 }
 
-fn receivers_of<'a>(types: &TypeNumbers<'a>, t: KnownType<'a>) -> Result<Option<u16>, NoMemory>
-    ensures { IfOk result (λ field. field ≡ receivers_field (trees_of types.now) (Some (type_of t.entry))) }
+fn receivers_of<'a>(types: &TypeNumbers<'a>, t: KnownType<'a>) -> Option<u16>
+    requires { IsOfFewFields (type_of t) }
+    ensures { result ≡ receivers_field (trees_of types.now) (Some (type_of t.entry)) }
 {
     match t {
         KnownType::Structure(scope, s) => kept(destination_among(&types.scopes, scope, &s.members)),
-        KnownType::BuiltIn(_) | KnownType::Enumeration(..) | KnownType::States(..) => Ok(None),
+        KnownType::BuiltIn(_) | KnownType::Enumeration(..) | KnownType::States(..) => None,
     }
 }
 
 /// The number of the field that names the receivers of a message of a type, where there is a type.
-pub fn receivers_field<'a>(
-    types: &TypeNumbers<'a>,
-    t: Option<KnownType<'a>>,
-) -> Result<Option<u16>, NoMemory>
-    ensures { IfOk result (λ field. field ≡ receivers_field (trees_of types.now) (option_map type_of t.entry)) }
+pub fn receivers_field<'a>(types: &TypeNumbers<'a>, t: Option<KnownType<'a>>) -> Option<u16>
+    requires { IfSome (option_map type_of t) IsOfFewFields }
+    ensures { result ≡ receivers_field (trees_of types.now) (option_map type_of t.entry) }
 {
     match t {
-        None => Ok(None),
+        None => None,
         Some(t) => receivers_of(types, t),
     }
 }

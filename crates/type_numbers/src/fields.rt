@@ -1,9 +1,10 @@
 //! The fields of structures as symbols, with the values that they have before anything is written to them.
-ghost use Rattle.std.specs.Prelude.{◌≡◌, ◌++◌, IfOk, OnOk, flat_map, ◌<◌, ◌^◌, unwrap_or};
+ghost use Rattle.std.specs.Prelude.{◌≡◌, ◌++◌, IfOk, IfSome, OnOk, flat_map, ◌<◌, ◌^◌, unwrap_or};
 ghost use Rattle.slicc_plan.specs.Prelude.{field_of_type, field_symbol, field_symbols, number_value, field_kind, initial_of, value_by, value_written};
 ghost use Rattle.declared_types.specs.Prelude.{scope_of, attribute_of, type_of};
 ghost use Rattle.type_numbers.specs.Fields.{field_seen};
 ghost use Rattle.type_numbers.specs.Numbered.{AreNumbered, trees_of};
+ghost use Rattle.type_numbers.specs.Small.{NamesFewMembers, IsOfFewMembers};
 ghost use Rattle.std.specs.Option.{option_map};
 ghost use Rattle.ruby_value.specs.Prelude.{default_value};
 
@@ -32,7 +33,8 @@ fn field_of_type<'a>(
     name: &[u8],
     f: Field<'a>,
 ) -> Result<FieldSymbol, NoMemory>
-    requires { AreNumbered types.now }
+    requires types { AreNumbered types.now }
+    requires scope { NamesFewMembers (trees_of types.now) (scope_of f.scope) }
     ensures { IfOk result (λ s. s ≡ field_of_type (trees_of types.now) name.now (field_seen f.entry)) }
 {
     let t = type_in(&types.scopes, f.scope, &f.kind.text);
@@ -53,7 +55,8 @@ fn add_field<'a>(
     scope: Scope<'a>,
     member: &'a Member,
 ) -> Result<(), NoMemory>
-    requires { AreNumbered types.now }
+    requires types { AreNumbered types.now }
+    requires scope { NamesFewMembers (trees_of types.now) (scope_of scope) }
     ensures { OnOk result (list.new ≡ list.old ++ field_symbol (trees_of types.now) (scope_of scope.entry) member.now) }
 {
     match member {
@@ -74,7 +77,8 @@ fn add_fields<'a>(
     scope: Scope<'a>,
     members: &'a [Member],
 ) -> Result<(), NoMemory>
-    requires { AreNumbered types.now }
+    requires types { AreNumbered types.now }
+    requires scope { NamesFewMembers (trees_of types.now) (scope_of scope) }
     ensures { OnOk result (list.new ≡ list.old ++ flat_map (field_symbol (trees_of types.now) (scope_of scope.entry)) members.now) }
 {
     for member in members {
@@ -90,7 +94,8 @@ pub fn structure_fields<'a>(
     scope: Scope<'a>,
     s: &'a Structure,
 ) -> Result<Seq<FieldSymbol>, NoMemory>
-    requires { AreNumbered types.now }
+    requires types { AreNumbered types.now }
+    requires scope { NamesFewMembers (trees_of types.now) (scope_of scope) }
     ensures { IfOk result (λ list. list ≡ field_symbols (trees_of types.now) (scope_of scope.entry) s.now) }
 {
     let mut list = Seq::new(alloc);
@@ -117,7 +122,8 @@ fn value_written(
     k: Kind,
     value: &PairValue,
 ) -> Result<Value, NoMemory>
-    requires { AreNumbered types.now }
+    requires types { AreNumbered types.now }
+    requires members { IsOfFewMembers (type_of t) }
     ensures { IfOk result (λ v. v ≡ value_written (trees_of types.now) text.now (type_of t.entry) k value.now) }
 {
     match k {
@@ -126,7 +132,7 @@ fn value_written(
         Kind::Bool => Ok(Value::Bool(is_word(value, b"true"))),
         Kind::Enum(number, member) => Ok(Value::Enum(
             number,
-            kept_or(member_written(types, text, t, value), member)?,
+            kept_or(member_written(types, text, t, value), member),
         )),
         Kind::Machine | Kind::Dest | Kind::Block | Kind::Entry(_) | Kind::Tbe(_) => {
             default_of(alloc, &k)
@@ -143,7 +149,8 @@ fn value_by(
     k: Kind,
     attribute: Option<Attribute<'_>>,
 ) -> Result<Value, NoMemory>
-    requires { AreNumbered types.now }
+    requires types { AreNumbered types.now }
+    requires members { IsOfFewMembers (type_of t) }
     ensures { IfOk result (λ v. v ≡ value_by (trees_of types.now) text.now (type_of t.entry) k (option_map attribute_of attribute.entry)) }
 {
     match attribute {
@@ -161,6 +168,7 @@ pub fn initial_value<'a>(
     k: Kind,
 ) -> Result<Value, NoMemory>
     requires types { AreNumbered types.now }
+    requires members { IfSome (option_map type_of t) IsOfFewMembers }
     requires kind { k ≡ field_kind (trees_of types.now) (field_seen f) }
     ensures { IfOk result (λ v. v ≡ initial_of (trees_of types.now) (field_seen f.entry) (option_map type_of t.entry)) }
 {

@@ -1,17 +1,16 @@
 //! The members of enumerations that values name as defaults, and the default members of enumerations.
-ghost use Rattle.std.specs.Prelude.{◌≡◌, map, position, [], ◌∷◌, IfOk, codes, slice_get, unwrap_or};
+ghost use Rattle.std.specs.Prelude.{◌≡◌, ◌<◌, ◌≤◌, All, map, position, [], ◌∷◌, IfOk, IfSome, codes, length, slice_get, unwrap_or};
 ghost use Rattle.slicc_ast.specs.declared.tree.declaration.State.{State};
 ghost use Rattle.slicc_ast.specs.declared.tree.declaration.Symbol.{Symbol};
-ghost use Rattle.slicc_plan.specs.Prelude.{members_of, everywhere, machine_names, member_written, is_default_of, member_number, default_name, default_names, first_attribute, declared_enumerations, default_number, own_default};
+ghost use Rattle.slicc_plan.specs.Prelude.{members_of, everywhere, machine_names, member_written, is_default_of, member_number, default_name, default_names, first_attribute, declared_enumerations, default_number, own_default, ScopedDeclaration};
 ghost use Rattle.declared_types.specs.Prelude.{scope_of, type_of, declaration_of};
-ghost use Rattle.type_numbers.specs.Prelude.{AreNumbered, trees_of, default_of, scoped_of};
+ghost use Rattle.type_numbers.specs.Prelude.{AreNumbered, HasFewMembers, IsOfFewMembers, trees_of, default_of, scoped_of};
 ghost use Rattle.std.specs.List.{list_any};
 ghost use Rattle.std.specs.Str.{bytes_eq};
 
 use crate::numbering::{Scoped, TypeNumbers};
 use declaration_rules::default_part;
 use declared_types::{Declared, KnownType, Named, Scope, first_attribute, fixed_members};
-use machine_table::kept_number;
 use ruby_base::{NoMemory, Seq};
 use slicc_ast::tree::{Enumeration, PairValue, States};
 use slicc_plan::BuiltInType;
@@ -24,7 +23,8 @@ fn member_place<T: Named>(
     members: &[T],
     value: &PairValue,
 ) -> Option<usize>
-    ensures { result ≡ position (λ m. is_default_of (scope_of scope.entry) own.now value.now (T.text m)) members.now }
+    ensures place { result ≡ position (λ m. is_default_of (scope_of scope.entry) own.now value.now (T.text m)) members.now }
+    ensures within { IfSome result (λ n. n < length members.now) }
 {
     members
         .iter()
@@ -38,21 +38,24 @@ fn member_number<T: Named>(
     members: &[T],
     value: &PairValue,
 ) -> Option<usize>
-    ensures { result ≡ member_number (scope_of scope.entry) own.now (map T.text members.now) value.now }
+    ensures number { result ≡ member_number (scope_of scope.entry) own.now (map T.text members.now) value.now }
+    ensures within { IfSome result (λ n. n < length members.now) }
 {
     member_place(scope, own, members, value)
 }
 
 /// The number of the symbol that a value names, of an enumeration in a scope.
 pub fn symbol_number(scope: Scope<'_>, e: &Enumeration, value: &PairValue) -> Option<usize>
-    ensures { result ≡ member_number (scope_of scope.entry) e.now.name.text (map (λ (s : Symbol). s.name.text) e.now.members) value.now }
+    ensures number { result ≡ member_number (scope_of scope.entry) e.now.name.text (map (λ (s : Symbol). s.name.text) e.now.members) value.now }
+    ensures within { IfSome result (λ n. n < length e.now.members) }
 {
     member_number(scope, &e.name.text, &e.members, value)
 }
 
 /// The number of the state that a value names, of a state declaration in a scope.
 pub fn state_number(scope: Scope<'_>, d: &States, value: &PairValue) -> Option<usize>
-    ensures { result ≡ member_number (scope_of scope.entry) d.now.name.text (map (λ (s : State). s.name.text) d.now.members) value.now }
+    ensures number { result ≡ member_number (scope_of scope.entry) d.now.name.text (map (λ (s : State). s.name.text) d.now.members) value.now }
+    ensures within { IfSome result (λ n. n < length d.now.members) }
 {
     member_number(scope, &d.name.text, &d.members, value)
 }
@@ -60,7 +63,8 @@ pub fn state_number(scope: Scope<'_>, d: &States, value: &PairValue) -> Option<u
 // The number of the machine that a value names.
 fn machine_number(types: &TypeNumbers<'_>, own: &[u8], value: &PairValue) -> Option<usize>
     requires { AreNumbered types.now }
-    ensures { result ≡ member_number everywhere own.now (machine_names (trees_of types.now)) value.now }
+    ensures number { result ≡ member_number everywhere own.now (machine_names (trees_of types.now)) value.now }
+    ensures within { IfSome result (λ n. n ≤ 65535) }
 {
     member_number(Scope::Everywhere, own, &types.machines, value)
 }
@@ -72,7 +76,8 @@ fn built_in_number(
     value: &PairValue,
 ) -> Option<usize>
     requires { AreNumbered types.now }
-    ensures { result ≡ member_number everywhere own.now (members_of (machine_names (trees_of types.now)) b) value.now }
+    ensures number { result ≡ member_number everywhere own.now (members_of (machine_names (trees_of types.now)) b) value.now }
+    ensures within { IfSome result (λ n. n ≤ 65535) }
 {
     match b {
         BuiltInType::MachineType => machine_number(types, own, value),
@@ -87,8 +92,10 @@ pub fn member_written(
     t: KnownType<'_>,
     value: &PairValue,
 ) -> Option<usize>
-    requires { AreNumbered types.now }
-    ensures { result ≡ member_written (trees_of types.now) text.now (type_of t.entry) value.now }
+    requires types { AreNumbered types.now }
+    requires members { IsOfFewMembers (type_of t) }
+    ensures number { result ≡ member_written (trees_of types.now) text.now (type_of t.entry) value.now }
+    ensures within { IfSome result (λ n. n ≤ 65535) }
 {
     match t {
         KnownType::BuiltIn(b) => built_in_number(types, text, b, value),
@@ -143,51 +150,56 @@ pub fn is_default_of(scope: Scope<'_>, own: &[u8], value: &PairValue, member: &[
 }
 
 /// The number, or another where there is none.
-pub fn kept_or(place: Option<usize>, other: u16) -> Result<u16, NoMemory>
-    ensures { IfOk result (λ number. number ≡ unwrap_or place other) }
+pub fn kept_or(place: Option<usize>, other: u16) -> u16
+    requires { IfSome place (λ n. n ≤ 65535) }
+    ensures { result ≡ unwrap_or place other }
 {
     match place {
-        None => Ok(other),
-        Some(n) => kept_number(n),
+        None => other,
+        Some(n) => n as u16,
     }
 }
 
-fn enumeration_default(scope: Scope<'_>, e: &Enumeration) -> Result<u16, NoMemory>
-    ensures { IfOk result (λ number. number ≡ default_number (scope_of scope.entry) e.now.name.text (map (λ (s : Symbol). s.name.text) e.now.members) (first_attribute (codes "default") e.now.pairs)) }
+fn enumeration_default(scope: Scope<'_>, e: &Enumeration) -> u16
+    requires { length e.now.members ≤ 65535 }
+    ensures { result ≡ default_number (scope_of scope.entry) e.now.name.text (map (λ (s : Symbol). s.name.text) e.now.members) (first_attribute (codes "default") e.now.pairs) }
 {
     match first_attribute(&e.pairs, b"default") {
-        None => Ok(0),
+        None => 0,
         Some(a) => kept_or(symbol_number(scope, e, a.value), 0),
     }
 }
 
-fn states_default(scope: Scope<'_>, s: &States) -> Result<u16, NoMemory>
-    ensures { IfOk result (λ number. number ≡ default_number (scope_of scope.entry) s.now.name.text (map (λ (s : State). s.name.text) s.now.members) (first_attribute (codes "default") s.now.pairs)) }
+fn states_default(scope: Scope<'_>, s: &States) -> u16
+    requires { length s.now.members ≤ 65535 }
+    ensures { result ≡ default_number (scope_of scope.entry) s.now.name.text (map (λ (s : State). s.name.text) s.now.members) (first_attribute (codes "default") s.now.pairs) }
 {
     match first_attribute(&s.pairs, b"default") {
-        None => Ok(0),
+        None => 0,
         Some(a) => kept_or(state_number(scope, s, a.value), 0),
     }
 }
 
 /// The number of the default member of an enumeration or of a state declaration: of the one that it names, else of its first.
-pub fn own_default(scope: Scope<'_>, d: Declared<'_>) -> Result<u16, NoMemory>
-    ensures { IfOk result (λ number. number ≡ own_default (scope_of scope.entry) (declaration_of d.entry)) }
+pub fn own_default(scope: Scope<'_>, d: Declared<'_>) -> u16
+    requires { HasFewMembers (declaration_of d) }
+    ensures { result ≡ own_default (scope_of scope.entry) (declaration_of d.entry) }
 {
     match d {
         Declared::Enumeration(e) => enumeration_default(scope, e),
         Declared::States(s) => states_default(scope, s),
-        _ => Ok(0),
+        _ => 0,
     }
 }
 
 /// The numbers of the default members of enumerations.
 pub fn defaults_of(alloc: Global, enumerations: &[Scoped<'_>]) -> Result<Seq<u16>, NoMemory>
+    requires { All (λ (d : ScopedDeclaration). HasFewMembers d.declaration) (map scoped_of enumerations.now) }
     ensures { IfOk result (λ list. list ≡ map default_of (map scoped_of enumerations.now)) }
 {
     let mut list = Seq::new(alloc);
     for d in enumerations {
-        list.push(own_default(d.scope, d.declaration)?)?;
+        list.push(own_default(d.scope, d.declaration))?;
     }
     Ok(list)
 }

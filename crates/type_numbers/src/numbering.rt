@@ -1,6 +1,6 @@
 //! The enumerations and structures of a protocol, in the order of their numbers.
-ghost use Rattle.std.specs.Prelude.{◌≡◌, ◌≤◌, ◌++◌, [], ◌∷◌, IfOk, OnOk, filter, flat_map, length, map};
-ghost use Rattle.slicc_plan.specs.Prelude.{machine, named_declarations, within, made_in, made_with_its_own, scoped_declarations};
+ghost use Rattle.std.specs.Prelude.{◌≡◌, ◌++◌, [], ◌∷◌, IfOk, OnOk, filter, flat_map, map};
+ghost use Rattle.slicc_plan.specs.Prelude.{IsAccepted, machine, named_declarations, within, made_in, made_with_its_own, scoped_declarations};
 ghost use Rattle.declared_types.specs.Prelude.{declaration_of, declarations_of, scope_of};
 ghost use Rattle.type_numbers.specs.Numbered.{AreLists, AreNumbered, has_sort, is_of_sort, scoped_of, trees_of};
 
@@ -151,28 +151,13 @@ fn types_of_sort<'a>(
     Ok(list)
 }
 
-// The same, where there are no more than numbers of 16 bits hold. A protocol has fewer.
-fn few_of_sort<'a>(
-    alloc: Global,
-    scopes: &Scopes<'a>,
-    sort: TypeSort,
-) -> Result<Seq<Scoped<'a>>, NoMemory>
-    ensures types { IfOk result (λ list. map scoped_of list ≡ filter (has_sort sort) (scoped_declarations scopes.now.trees.now)) }
-    ensures few { IfOk result (λ list. length list ≤ 65000) }
-{
-    let list = types_of_sort(alloc, scopes, sort)?;
-    if list.len() > 65_000 {
-        return Err(NoMemory);
-    }
-    Ok(list)
-}
-
 fn lists_of<'a>(alloc: Global, scopes: &Scopes<'a>) -> Result<Lists<'a>, NoMemory>
+    requires { IsAccepted scopes.now.trees.now }
     ensures { IfOk result (AreLists scopes.now.trees.now) }
 {
-    let structures = few_of_sort(alloc, scopes, TypeSort::Structure)?;
+    let structures = types_of_sort(alloc, scopes, TypeSort::Structure)?;
     let machines = machines(alloc, scopes.trees)?;
-    let enumerations = few_of_sort(alloc, scopes, TypeSort::Enumeration)?;
+    let enumerations = types_of_sort(alloc, scopes, TypeSort::Enumeration)?;
     let defaults = defaults_of(alloc, &enumerations)?;
     Ok(Lists {
         machines,
@@ -182,8 +167,9 @@ fn lists_of<'a>(alloc: Global, scopes: &Scopes<'a>) -> Result<Lists<'a>, NoMemor
     })
 }
 
-/// The types of the protocol of these scopes.
+/// The types of the protocol of these scopes, which is accepted.
 pub fn number_types<'a>(alloc: Global, scopes: Scopes<'a>) -> Result<TypeNumbers<'a>, NoMemory>
+    requires { IsAccepted scopes.trees.now }
     ensures trees { IfOk result (λ types. trees_of types ≡ scopes.entry.trees.now) }
     ensures numbered { IfOk result (λ types. AreNumbered types) }
 {

@@ -1,5 +1,5 @@
 //! The numbers of declared types, and the kinds of values that are no references.
-ghost use Rattle.std.specs.Prelude.{◌≡◌, ◌<◌, ◌≤◌, IfOk, IfSome, length, map, position, option_and_then};
+ghost use Rattle.std.specs.Prelude.{◌≡◌, ◌<◌, ◌≤◌, IfSome, length, map, position, option_and_then};
 ghost use Rattle.slicc_plan.specs.Prelude.{declared_number, declared_structures, declares, request_number, structure_number, structured, built_in_kind, default_member, kind_or_bool, plain_kind};
 ghost use Rattle.declared_types.specs.Prelude.{scope_of, type_of};
 ghost use Rattle.type_numbers.specs.declared.numbering.Scoped.{Scoped};
@@ -11,8 +11,6 @@ use crate::members::default_at;
 use crate::numbering::{Scoped, TypeNumbers};
 use body_types::same_type;
 use declared_types::{KnownType, Scope, declared_type};
-use machine_table::kept_number;
-use ruby_base::NoMemory;
 use ruby_value::Kind;
 use slicc_ast::tree::Structure;
 use slicc_plan::BuiltInType;
@@ -40,13 +38,14 @@ pub fn place_among(list: &[Scoped<'_>], t: KnownType<'_>) -> Option<usize>
     first_declaring(list, t)
 }
 
-/// A number, where there is one, as one that setups keep. A protocol has fewer of all that is numbered than they have numbers.
-pub fn kept(place: Option<usize>) -> Result<Option<u16>, NoMemory>
-    ensures { IfOk result (λ kept. kept ≡ place) }
+/// A number, where there is one, as one that setups keep.
+pub fn kept(place: Option<usize>) -> Option<u16>
+    requires { IfSome place (λ n. n ≤ 65535) }
+    ensures { result ≡ place }
 {
     match place {
-        None => Ok(None),
-        Some(n) => Ok(Some(kept_number(n)?)),
+        None => None,
+        Some(n) => Some(n as u16),
     }
 }
 
@@ -76,7 +75,7 @@ pub fn structure_number(types: &TypeNumbers<'_>, scope: Scope<'_>, s: &Structure
 fn last_number(types: &TypeNumbers<'_>) -> u16
     requires { AreNumbered types.now }
     ensures value { result ≡ length (declared_structures (trees_of types.now)) }
-    ensures bound { result ≤ 65000 }
+    ensures bound { result ≤ 16384 }
 {
     types.structures.len() as u16
 }

@@ -3,8 +3,12 @@ use Rattle.slicc_plan.specs.Prelude.{declared_in, machine_declarations, within, 
 use Rattle.declared_types.specs.Prelude.{scope_of, scope_at}
 use Rattle.declaration_rules.proofs.Steps.{flat_map_same, one_list_before}
 use Rattle.body_rules.specs.Prelude.{wrong_names_within, wrong_states}
-use Rattle.body_rules.proofs.NameWalks.{states_same}
+use Rattle.body_rules.proofs.NameWalks.{few_within, states_same}
 use Rattle.body_rules.proofs.all.judge_names.Goals as goal
+
+pub missing_names-requires : goal.missing_names-requires
+missing_names-requires c =
+    few_within c.args.scopes.now.trees.now c.args.number c.in-Within.m.now c.requires (sym c.scope.ensures ∙ ap scope_of c.in-Within.is)
 
 pub returns-in_ok-named-in-Within : goal.returns-in_ok-named-in-Within
 returns-in_ok-named-in-Within c =

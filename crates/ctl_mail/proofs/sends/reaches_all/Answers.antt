@@ -32,7 +32,7 @@ overflow_add-from c =
     let count = c.len-controllers.result in
     let below : All (λ x. x < count) members = all-below members count (no-next _ (sym c.least_from.ensures ∙ none-there c.least_from.result (sym c.is_some.ensures ∙ c.if-is_some.false))) in
     let small : c.in-Some.receiver < count = member-holds (λ x. x < count) members c.loop-receiver.from c.in-Some.receiver below (sym c.in-Some.ensures) in
-    omega (arith, c.if-controllers-gt4294967294.false)
+    omega (arith, c.requires.controllers, c.len-controllers.ensures)
 
 pub loop-receiver-smaller : goal.loop-receiver-smaller
 loop-receiver-smaller c =
@@ -52,7 +52,7 @@ loop-receiver-preserved c =
     let is : members_from c.loop-receiver.from members ≡ c.in-Some.receiver ∷ members_from (c.in-Some.receiver + 1) members =
     (next-member members (rise-from members c.count-count.ensures.increasing) c.loop-receiver.from c.in-Some.receiver (sym c.in-Some.ensures)).1 in
     record {
-      within = omega (arith, c.if-controllers-gt4294967294.false);
+      within = omega (arith, c.requires.controllers, c.len-controllers.ensures);
       left =
           c.loop-receiver.invariant.left ∙ (ap (list_all p) is
           ∙ and-first (p c.in-Some.receiver) (list_all p (members_from (c.in-Some.receiver + 1) members)) (ap (λ (o : Option ℕ). is_some o) (sym c.receiving_buffer.ensures) ∙ c.if-is_none.ensures));
@@ -70,4 +70,4 @@ returns-clause-next c =
     let members = c.args.members.now in
     let count = c.len-controllers.result in
     let below : All (λ x. x < count) members = all-below members count (no-next _ (sym c.least_from.ensures ∙ none-there c.least_from.result (sym c.is_some.ensures ∙ c.if-is_some.false))) in
-    λ always k d within. let small : get_or members k d < count = below k d within in omega (arith, c.if-controllers-gt4294967294.false)
+    λ always k d within. let small : get_or members k d < count = below k d within in omega (arith, c.requires.controllers, c.len-controllers.ensures)

@@ -6,13 +6,10 @@ use Rattle.ctl_mail.proofs.ToAll.{sent_all, too_many, unrouted}
 use Rattle.ctl_mail.proofs.Untold.{without_memory}
 use Rattle.ctl_mail.proofs.sends.send_to_all.Goals as goal
 
-pub returns-in_err-reaches_all-clause-does : goal.returns-in_err-reaches_all-clause-does
-returns-in_err-reaches_all-clause-does c = without_memory _ _ _ _ c.from_residual.ensures.1 refl
-
-pub returns-then-not-branch-clause-does : goal.returns-then-not-branch-clause-does
-returns-then-not-branch-clause-does c = (
+pub returns-then-not-reaches_all-clause-does : goal.returns-then-not-reaches_all-clause-does
+returns-then-not-reaches_all-clause-does c = (
   unrouted (actor_of c.args.me c.args.seed c.args.routes.now) c.args.network c.args.latency c.args.changes.now.cycle c.args.members.now (view_after c.args.store.now c.args.changes.now) c.args.fields
-      (sym c.in_ok-reaches_all.ensures.value ∙ c.if-not-branch.true),
+      (sym c.reaches_all.ensures.value ∙ c.if-not-reaches_all.true),
   refl,
 )
 
@@ -23,13 +20,13 @@ returns-then-count-changes-clause-does c =
     let many : nat_lt copy_limit (mail.copies + length c.args.members.now) ≡ true =
     lt-ltb copy_limit (mail.copies + length c.args.members.now) (omega (arith, counts, c.count-count.ensures.value, c.if-count-changes.true)) in (
       too_many (actor_of c.args.me c.args.seed c.args.routes.now) c.args.network c.args.latency c.args.changes.now.cycle c.args.members.now (view_after c.args.store.now c.args.changes.now) c.args.fields
-          (sym c.in_ok-reaches_all.ensures.value ∙ c.if-not-branch.false) many,
+          (sym c.reaches_all.ensures.value ∙ c.if-not-reaches_all.false) many,
       refl,
     )
 
 pub returns-in_err-reserve_copies-clause-does : goal.returns-in_err-reserve_copies-clause-does
 returns-in_err-reserve_copies-clause-does c =
-    without_memory _ _ _ _ c.from_residual-in_err-reserve_copies.ensures.1 (ap (λ (t : Told). changed_view (mail_of c.args.store.now) t) c.reserve_copies.ensures.same)
+    without_memory _ _ _ _ c.from_residual.ensures.1 (ap (λ (t : Told). changed_view (mail_of c.args.store.now) t) c.reserve_copies.ensures.same)
 
 pub returns-clause-does : goal.returns-clause-does
 returns-clause-does c =
@@ -40,7 +37,7 @@ returns-clause-does c =
     let few : nat_lt copy_limit (mail.copies + length c.args.members.now) ≡ false =
     le-ltb copy_limit (mail.copies + length c.args.members.now) (omega (arith, counts, c.requires.may.copies_left, c.count-count.ensures.value, c.if-count-changes.false)) in
     sent_all (actor_of c.args.me c.args.seed c.args.routes.now) c.args.network c.args.latency c.args.changes.now.cycle c.args.members.now (view_after c.args.store.now c.args.changes.now) c.args.fields
-    (sym c.in_ok-reaches_all.ensures.value ∙ c.if-not-branch.false) few
+    (sym c.reaches_all.ensures.value ∙ c.if-not-reaches_all.false) few
     ∙ ap (λ (v : MailView). Ok v)
     (ap (λ (t : Told). view_with_copies c.args.me (changed_view first t) (copies_to_all actor c.args.network c.args.latency c.args.fields t.cycle (changed_mail first t) c.args.members.now)) (sym c.in_ok-reserve_copies.ensures.same)
     ∙ sym c.copy_to_all.ensures.after)

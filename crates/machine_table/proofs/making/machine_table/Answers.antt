@@ -4,4 +4,4 @@ use Rattle.machine_table.proofs.making.machine_table.Goals as goal
 
 pub table_of-requires-clause-among : goal.table_of-requires-clause-among
 table_of-requires-clause-among c =
-    among_as c.args.m.now c.deref.result.now c.state_count-states.result c.event_count-events.result (c.deref.ensures ∙ c.in_ok-ws.ensures) c.state_count-states.ensures c.event_count-events.ensures
+    among_as c.args.m.now c.deref.result.now c.state_count.result c.event_count.result (c.deref.ensures ∙ c.in_ok-ws.ensures.written) c.state_count.ensures c.event_count.ensures

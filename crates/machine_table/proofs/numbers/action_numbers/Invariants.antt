@@ -7,5 +7,5 @@ abbrev pub invariant-loop-d : goal.invariant-loop-d
 invariant-loop-d l = record {
   numbers : (text : List ℕ) → found_by l.numbers text ≡ position (is_named text) (actions_among (take l.d-index l.ds));
   number : l.number ≡ length (actions_among (take l.d-index l.ds));
-  few : l.number ≤ l.d-index;
+  few : l.number ≤ 256;
 }

@@ -1,4 +1,4 @@
-use Rattle.std.proofs.Common.{◌≡◌, ap, map, position, bytes_eq, cond, Some, None, ◌∙◌}
+use Rattle.std.proofs.Common.{ap, map, position, bytes_eq, cond, Some, None, ◌∙◌}
 use Rattle.std.specs.Option.{option_or}
 use Rattle.std.proofs.lemmas.List.{take_all}
 use Rattle.slicc_plan.specs.Prelude.{is_named}

@@ -1,4 +1,4 @@
-use Rattle.std.proofs.Common.{◌≡◌, ℕ, List, map, position, take, length}
+use Rattle.std.proofs.Common.{◌≡◌, ℕ, List, map, position, take}
 use Rattle.slicc_plan.specs.Prelude.{is_named}
 use Rattle.machine_table.specs.Prelude.{found_by}
 use Rattle.machine_table.proofs.numbers.member_numbers.Given as goal

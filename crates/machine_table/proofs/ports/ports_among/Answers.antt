@@ -1,4 +1,4 @@
-use Rattle.std.proofs.Common.{◌++◌, ◌∙◌, ap, map, sym, take}
+use Rattle.std.proofs.Common.{◌++◌, ◌∙◌, ap, map, sym}
 use Rattle.std.proofs.lemmas.List.{take_all}
 use Rattle.slicc_plan.specs.Prelude.{ports_of, all_ports_from}
 use Rattle.machine_table.proofs.AllPorts.{ports_step}
@@ -9,8 +9,7 @@ loop-number-preserved c =
     let trees = c.args.scopes.now.trees.now in
     let m = c.index-machines-number.result in
     c.in_ok-add_ports_of.ensures
-    ∙ ap (λ ps. ps ++ ports_of trees c.in_ok-kept.kept m.now) c.loop-number.invariant
-    ∙ ap (λ n. all_ports_from trees 0 (map (λ m. m.now) (take c.loop-number.number c.args.machines.now)) ++ ports_of trees n m.now) c.in_ok-kept.ensures
+    ∙ ap (λ ps. ps ++ ports_of trees c.loop-number.number m.now) c.loop-number.invariant
     ∙ sym (ports_step (λ m. m.now) trees c.args.machines.now c.loop-number.number m c.loop-number-test.true c.index-machines-number.is)
 
 pub returns : goal.returns

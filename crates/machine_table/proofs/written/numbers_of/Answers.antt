@@ -1,4 +1,3 @@
-use Rattle.std.proofs.Common.{rules}
 use Rattle.machine_table.specs.Prelude.{found_by, found_name}
 use Rattle.machine_table.proofs.NumbersOfNames.{filter_step}
 use Rattle.machine_table.proofs.written.numbers_of.Goals as goal

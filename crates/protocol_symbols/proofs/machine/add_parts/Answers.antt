@@ -14,5 +14,5 @@ returns-clause-objects c =
 pub returns-clause-bodies : goal.returns-clause-bodies
 returns-clause-bodies c =
     subst (λ (bs : List BufferSymbol). AddBodies (trees_of c.args.types.now) c.args.m.now bs c.args.m.now.declarations c.args.bodies.now c.add_bodies.new.bodies) c.as_slice-buffers.ensures
-    (subst (λ (ds : List Decl). AddBodies (trees_of c.args.types.now) c.args.m.now c.as_slice-buffers.result.now ds c.args.bodies.now c.add_bodies.new.bodies) c.as_slice-written.ensures
+    (subst (λ (ds : List Decl). AddBodies (trees_of c.args.types.now) c.args.m.now c.as_slice-buffers.result.now ds c.args.bodies.now c.add_bodies.new.bodies) c.as_slice-inside.ensures
     c.in_ok-add_bodies.ensures)

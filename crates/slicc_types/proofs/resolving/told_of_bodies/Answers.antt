@@ -1,7 +1,11 @@
 use Rattle.slicc_plan.specs.Prelude.{broken_bodies}
+use Rattle.slicc_plan.proofs.Few.{few_machines}
 use Rattle.slicc_names.proofs.FirstOfAll.{is_none}
 use Rattle.slicc_types.proofs.Phases.{told_by_bodies}
 use Rattle.slicc_types.proofs.resolving.told_of_bodies.Goals as goal
+
+pub broken_bodies-requires : goal.broken_bodies-requires
+broken_bodies-requires c = few_machines c.args.scopes.now.trees.now c.requires
 
 pub returns-in-Some : goal.returns-in-Some
 returns-in-Some c =

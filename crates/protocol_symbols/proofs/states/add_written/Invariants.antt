@@ -1,6 +1,0 @@
-use Rattle.std.proofs.Common.{◌≡◌, ◌++◌, map, take}
-use Rattle.slicc_plan.specs.Prelude.{transition_symbol}
-use Rattle.protocol_symbols.proofs.states.add_written.Given as goal
-
-abbrev pub invariant-loop-t : goal.invariant-loop-t
-invariant-loop-t l = l.list ≡ l.initial.list ++ map transition_symbol (take l.t-index l.written)
