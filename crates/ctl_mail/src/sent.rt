@@ -1,5 +1,5 @@
 // The copies that a scan sends, kept as its changes. Where there is room for a copy, it takes no memory to keep it.
-ghost use Rattle.std.specs.Prelude.{◌≡◌, ◌<◌, ◌+◌, ◌*◌, ◌^◌, ℕ, None, OnOk};
+ghost use Rattle.std.specs.Prelude.{◌≡◌, ◌<◌, ◌≤◌, ◌+◌, ◌*◌, ◌^◌, ℕ, None, OnOk};
 ghost use Rattle.std.specs.List.{fold};
 ghost use Rattle.ctl_mail.specs.Sent.{HasSpace, copy_at, counts_after, newer_local, newer_network, told_with_act, told_with_copy};
 ghost use Rattle.ctl_mail.specs.Told.{told_by};
@@ -77,13 +77,11 @@ impl MailChanges {
 
     // Makes room for so many more copies, or answers that there is no memory for them.
     pub(crate) fn reserve_copies(&mut self, copies: usize) -> Result<(), NoMemory>
+        requires { copies ≤ 4096 }
         ensures same { told_by self.new ≡ told_by self.old }
         ensures ok { OnOk result (HasSpace self.new (3 * copies) copies) }
     {
-        let Some(acts) = copies.checked_mul(3) else {
-            return Err(NoMemory);
-        };
-        self.log.reserve(acts)?;
+        self.log.reserve(3 * copies)?;
         self.sent.reserve(copies)?;
         self.posted.reserve(copies)?;
         Ok(())

@@ -16,23 +16,19 @@ pub(crate) enum List {
     Faults,
 }
 
-/// The most bytes that a list may have.
-pub(crate) const LIST_LIMIT: u64 = 1_048_576;
+// The most bytes that a list may have.
+const LIST_LIMIT: u64 = 1_048_576;
 
-/// Whether a line is a row: it has a word, and the first one doesn't begin a comment.
-pub(crate) fn is_row(line: &str) -> bool {
+// Whether a line is a row: it has a word, and the first one doesn't begin a comment.
+fn is_row(line: &str) -> bool {
     match line.split_whitespace().next() {
         Some(first) => !first.starts_with('#'),
         None => false,
     }
 }
 
-/// Adds the words of a line, which are separated by blanks.
-pub(crate) fn add_words(
-    alloc: Global,
-    line: &str,
-    words: &mut Vec<String>,
-) -> Result<(), NoMemory> {
+// Adds the words of a line, which are separated by blanks.
+fn add_words(alloc: Global, line: &str, words: &mut Vec<String>) -> Result<(), NoMemory> {
     for word in line.split_whitespace() {
         words.push(String::from_str(alloc, word)?)?;
     }

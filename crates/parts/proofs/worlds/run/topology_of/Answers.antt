@@ -2,7 +2,7 @@ use Rattle.std.proofs.lemmas.Result.{IfOk-weaker}
 use Rattle.slicc_plan.specs.Prelude.{symbols_of}
 use Rattle.ruby_topology.specs.Prelude.{IsTopologyOf}
 use Rattle.protocol_meaning.specs.Prelude.{FitsPlan}
-use Rattle.rows.proofs.worlds.run.topology_of.Goals as goal
+use Rattle.parts.proofs.worlds.run.topology_of.Goals as goal
 
 pub returns : goal.returns
 returns c =

@@ -19,28 +19,28 @@ pub(crate) struct Row<'a> {
 const LAST_CYCLE: u64 = 1_000_000_000_000;
 
 /// The row that the words of a line say, if they say one.
-pub(crate) fn row_of(words: &[String]) -> Option<Row<'_>>
+pub(crate) fn row_of<'a>(words: &[&'a str]) -> Option<Row<'a>>
     ensures { IfSome result (λ row. row.limits.cycles ≤ last_cycle) }
 {
     let [name, protocol, topology, script, seed, cycles, limit, shown] = words else {
         return None;
     };
-    let seed = seed.as_str().parse::<u64>().ok()?;
-    let cycles = cycles.as_str().parse::<u64>().ok()?;
-    let limit = limit.as_str().parse::<u64>().ok()?;
+    let seed = seed.parse::<u64>().ok()?;
+    let cycles = cycles.parse::<u64>().ok()?;
+    let limit = limit.parse::<u64>().ok()?;
     if cycles > LAST_CYCLE {
         return None;
     }
     Some(Row {
-        name: name.as_str(),
-        protocol: protocol.as_str(),
-        topology: topology.as_str(),
-        script: script.as_str(),
+        name,
+        protocol,
+        topology,
+        script,
         limits: RunLimits {
             seed,
             cycles,
             limit,
         },
-        whole: shown.as_str() == "journal",
+        whole: *shown == "journal",
     })
 }

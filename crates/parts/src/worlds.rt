@@ -1,0 +1,82 @@
+// Runs under a script of requests: the rows of a list, and of each a line `== NAME` and below it the whole journal of the run, or how
+// it ended alone.
+mod entries;
+
+ghost use Rattle.std.specs.Prelude.{◌≤◌};
+ghost use Rattle.ctl_face.specs.Prelude.{last_cycle};
+
+mod row;
+mod run;
+mod script;
+
+use row::{Row, row_of};
+use ruby_outside::{Got, Library, Sink, put};
+use run::write_run;
+use std::alloc::Global;
+
+// The most bytes that a list may have.
+const LIST_LIMIT: u64 = 1_048_576;
+
+// Writes a row, and answers whether it was written whole. A run whose files can't be read, or are refused, has no lines.
+fn write_row<L: Library, S: Sink>(
+    alloc: Global,
+    library: &mut L,
+    sink: &mut S,
+    row: &Row<'_>,
+) -> bool
+    requires { row.now.limits.cycles ≤ last_cycle }
+{
+    put(sink, b"== ")
+        && put(sink, row.name.as_bytes())
+        && put(sink, b"\n")
+        && write_run(alloc, library, sink, row)
+}
+
+// Writes the row of a line, if it says one, and answers whether that was written whole.
+fn write_line<L: Library, S: Sink>(
+    alloc: Global,
+    line: &str,
+    library: &mut L,
+    sink: &mut S,
+) -> bool {
+    let Ok(words) = line.split_whitespace().collect::<Vec<&str>>(alloc) else {
+        return false;
+    };
+    let row = row_of(words.as_slice());
+    drop(words);
+    match row {
+        Some(row) => write_row(alloc, library, sink, &row),
+        None => true,
+    }
+}
+
+// Writes the rows of lines until one isn't written whole.
+fn write_lines<L: Library, S: Sink>(
+    alloc: Global,
+    lines: &str,
+    library: &mut L,
+    sink: &mut S,
+) -> bool {
+    for line in lines.lines() {
+        if !write_line(alloc, line, library, sink) {
+            return false;
+        }
+    }
+    true
+}
+
+/// Writes the rows of the list in the file of this name until one isn't written whole, and answers whether all were.
+pub(crate) fn write_list<L: Library, S: Sink>(
+    alloc: Global,
+    file: &str,
+    library: &mut L,
+    sink: &mut S,
+) -> bool {
+    match library.read(file, LIST_LIMIT) {
+        Got::Bytes(lines) => {
+            let lines = str::from_utf8(&lines).unwrap_or("");
+            write_lines(alloc, lines, library, sink)
+        }
+        _ => false,
+    }
+}
