@@ -15,32 +15,6 @@ use Rattle.slicc_plan.specs.Prelude.{named_call, Environment, type_named, cast_t
 use Rattle.expression_types.specs.Prelude.{all_arguments, all_operands, all_suffixes}
 use Rattle.expression_types.proofs.Rows.{arguments_of_row, operands_of_row, suffixes_of_row}
 
-pub span_of_Operation : (e : Expr) (others : List Operand) (span : Span) → span_of (views.Operation e others span) ≡ span
-span_of_Operation e others span = ap span_of (Operation_is e others span)
-
-pub span_of_Not : (e : Expr) (span : Span) → span_of (views.Not e span) ≡ span
-span_of_Not e span = ap span_of (Not_is e span)
-
-pub span_of_Negate : (e : Expr) (span : Span) → span_of (views.Negate e span) ≡ span
-span_of_Negate e span = ap span_of (Negate_is e span)
-
-pub span_of_Postfix : (e : Expr) (suffixes : List Suffix) (span : Span) → span_of (views.Postfix e suffixes span) ≡ span
-span_of_Postfix e suffixes span = ap span_of (Postfix_is e suffixes span)
-
-pub span_of_IsValid : (e : Expr) (span : Span) → span_of (views.IsValid e span) ≡ span
-span_of_IsValid e span = ap span_of (IsValid_is e span)
-
-pub span_of_IsInvalid : (e : Expr) (span : Span) → span_of (views.IsInvalid e span) ≡ span
-span_of_IsInvalid e span = ap span_of (IsInvalid_is e span)
-
-pub span_of_Cast : (target : TypeName) (mode : Option (List ℕ)) (e : Expr) (span : Span) → span_of (views.Cast target mode e span) ≡ span
-span_of_Cast target mode e span = ap span_of (Cast_is target mode e span)
-
-pub span_of_Group : (e : Expr) (span : Span) → span_of (views.Group e span) ≡ span
-span_of_Group e span = ap span_of (Group_is e span)
-
-pub ruleset span_of_boxes = (span_of_Operation, span_of_Not, span_of_Negate, span_of_Postfix, span_of_IsValid, span_of_IsInvalid, span_of_Cast, span_of_Group)
-
 pub typed_of_Operation : (env : Environment) (e : Expr) (others : List Operand) (span : Span) → typed env (views.Operation e others span) ≡ all_operands env (span_of e) (typed env e) others
 typed_of_Operation env e others span =
     ap (typed env) (Operation_is e others span) ∙ search (rules, the_lemmas, operands_of_row env)

@@ -8,13 +8,13 @@ ghost use Rattle.expression_types.specs.Prelude.{all_known, all_arguments, all_o
 
 use crate::fields::field_of;
 use crate::members::{member_type, variable_type};
-use crate::operators::{cast_to, from_operand, joined, of_built_in, span_of};
+use crate::operators::{cast_to, from_operand, joined, of_built_in};
 use body_types::{Environment, Given, Meaning, Typed, Wanted, told, unfit};
 use call_types::{index_call, method_call, named_call, plain};
 use declared_types::KnownType;
 use ruby_base::{NoMemory, Seq};
 use slicc_ast::tree::{Expr, Name, Operand, Span, Suffix, TypeName};
-use slicc_plan::{Broken, BuiltInType, Rule, earlier_of_two};
+use slicc_plan::{Broken, BuiltInType, Rule, earlier_of_two, span_of};
 use std::alloc::Global;
 
 // What an expression is, with its place.

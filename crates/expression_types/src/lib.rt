@@ -7,4 +7,3 @@ mod members;
 mod operators;
 
 pub use expression::{broken_where, typed};
-pub use operators::span_of;

@@ -1,6 +1,6 @@
-//! Operators, what has one operand, and where expressions are.
+//! Operators, and what has one operand.
 ghost use Rattle.std.specs.Prelude.{◌≡◌};
-ghost use Rattle.slicc_plan.specs.Prelude.{cast_meaning, cast_to, from_operand, joined, operator_type, wanted_left, wanted_right, type_named, of_built_in, span_of};
+ghost use Rattle.slicc_plan.specs.Prelude.{cast_meaning, cast_to, from_operand, joined, operator_type, wanted_left, wanted_right, type_named, of_built_in};
 ghost use Rattle.declared_types.specs.Prelude.{type_of};
 ghost use Rattle.body_types.specs.Prelude.{IsEnvironment, environment_of, found_of, given_of, typed_of, AreLines, meaning_of, wanted_of};
 
@@ -10,7 +10,7 @@ use body_types::{
 };
 use call_types::plain;
 use declared_types::KnownType;
-use slicc_ast::tree::{Expr, Operator, Span, TypeName};
+use slicc_ast::tree::{Operator, TypeName};
 use slicc_plan::{BuiltInType, earlier_of_two};
 
 /// What a built-in type's values are wanted as.
@@ -120,28 +120,5 @@ pub fn cast_to<'a>(env: Environment<'_, 'a>, target: &TypeName, g: Given<'a>) ->
             let meaning = cast_meaning(env.lines, t, g.typed.meaning);
             plain(meaning, earlier_of_two(g.typed.broken, then))
         }
-    }
-}
-
-/// The place of an expression.
-#[tactic(auto, using(crate::proofs::Boxes::span_of_boxes))]
-pub fn span_of(e: &Expr) -> Span
-    ensures { result ≡ span_of e.now }
-{
-    match e {
-        Expr::Operation { span, .. }
-        | Expr::Postfix { span, .. }
-        | Expr::Member { span, .. }
-        | Expr::Call { span, .. } => *span,
-        Expr::Cast { span, .. } => *span,
-        Expr::Not(_, span)
-        | Expr::Negate(_, span)
-        | Expr::IsValid(_, span)
-        | Expr::IsInvalid(_, span)
-        | Expr::Group(_, span) => *span,
-        Expr::Number(_, span) => *span,
-        Expr::True(span) | Expr::False(span) | Expr::Nothing(span) => *span,
-        Expr::New(_, span) => *span,
-        Expr::Variable(name) => name.span,
     }
 }

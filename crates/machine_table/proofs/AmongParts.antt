@@ -1,27 +1,14 @@
 -- A machine's written transitions are among its states and events.
-use Rattle.std.proofs.Common.{◌≡◌, ℕ, suc, ◌<◌, Bool, true, false, cond, Option, None, Some, List, [], ◌∷◌, ◌++◌, All, fold, length, map, position, refl, sym, subst, arith}
-use Rattle.std.specs.List.{cons_option}
-use Rattle.std.proofs.lemmas.List.Quantifiers.{position-Some}
+use Rattle.std.proofs.Common.{◌≡◌, ℕ, suc, ◌<◌, Bool, true, false, cond, List, [], ◌∷◌, ◌++◌, All, fold, length, map, sym, subst, arith}
 use Rattle.std.proofs.lemmas.List.Elements.{All-cons, All-nil, All-push}
 use Rattle.slicc_ast.specs.declared.tree.name.Name.{Name}
 use Rattle.slicc_ast.specs.declared.tree.machine.Machine.{Machine}
 use Rattle.slicc_ast.specs.declared.tree.machine.Transition.{Transition}
 use Rattle.slicc_plan.specs.declared.row.Written.{Written}
-use Rattle.slicc_plan.specs.Prelude.{Declaration, is_named, event_members, state_members, each_once, includes, number_among, numbers_among, transitions_of, with_number, written, written_of}
+use Rattle.slicc_plan.specs.Prelude.{Declaration, event_members, state_members, each_once, includes, numbers_among, transitions_of, with_number, written, written_of}
 use Rattle.slicc_plan.specs.Machines.{names_in}
+use Rattle.slicc_plan.proofs.Pairs.{positions_below}
 use Rattle.pair_table.specs.Prelude.{IsAmong}
-
-numbers_below : (ds : List Declaration) (ns : List Name) → All (λ k. k < length ds) (numbers_among ds ns)
-numbers_below ds [] = All-nil (λ k. k < length ds)
-numbers_below ds (n ∷ ns) = by (numbers_below ds ns) (number_among ds n) refl
-  where
-    below : (ds : List Declaration) (i : ℕ) → position (is_named n.text) ds ≡ Some i → i < length ds
-    below [] i e = cc
-    below (d ∷ ds) i e = (position-Some (is_named n.text) (d ∷ ds) i d e).0
-
-    by : All (λ k. k < length ds) (numbers_among ds ns) → (o : Option ℕ) → o ≡ number_among ds n → All (λ k. k < length ds) (cons_option o (numbers_among ds ns))
-    by more None e = more
-    by more (Some i) e = All-cons (λ k. k < length ds) i (numbers_among ds ns) (below ds i (sym e)) more
 
 all_once : (P : ℕ → Type 0) (kept ns : List ℕ) → All P kept → All P ns → All P (fold with_number kept ns)
 all_once P kept [] h g = h
@@ -32,7 +19,7 @@ all_once P kept (n ∷ ns) h g = all_once P (with_number kept n) ns (by (include
     by false = All-push P kept n h (g 0 n (omega arith))
 
 once_below : (ds : List Declaration) (ns : List Name) → All (λ k. k < length ds) (each_once (numbers_among ds ns))
-once_below ds ns = all_once (λ k. k < length ds) [] (numbers_among ds ns) (All-nil (λ k. k < length ds)) (numbers_below ds ns)
+once_below ds ns = all_once (λ k. k < length ds) [] (numbers_among ds ns) (All-nil (λ k. k < length ds)) (positions_below ds ns)
 
 pub among_written : (m : Machine) → All (IsAmong (length (state_members m)) (length (event_members m))) (written_of m)
 among_written m = each (transitions_of m)

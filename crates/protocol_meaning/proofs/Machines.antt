@@ -1,7 +1,6 @@
 -- Each machine of an accepted protocol, with a topology that fits it, is within the extent of its runs.
 use Rattle.std.proofs.Common.{◌≡◌, ◌<◌, ◌≤◌, ◌+◌, ◌*◌, ◌++◌, ◌&&◌, ◌||◌, ◌==◌, ◌∙◌, ℕ, ℤ, zero, suc, Bool, true, false, cond, List, [], ◌∷◌, All, IfSome, IsSomeAnd, Option, None, Some, find, flat_map, fold, get_or, length, length-append, lit<, map, pos, refl, sym, ap, subst, arith, slice_get, unwrap_or, option_and_then}
 use Rattle.std.specs.Prelude.{codes, is_none, position}
-use Rattle.std.specs.List.{cons_option}
 use Rattle.std.specs.Option.{option_map}
 use Rattle.std.specs.Str.{bytes_eq}
 use Rattle.std.proofs.lemmas.Bool.{and_from, cond_both}
@@ -84,14 +83,6 @@ numbered_below ds n = by (number_among ds n) refl
     by : (o : Option ℕ) → number_among ds n ≡ o → IfSome o (λ k. k < length ds)
     by None is = tt
     by (Some k) is = let place = at_position (is_named n.text) ds k is in slice_get_within ds k place.0 place.1
-
-numbers_below : (ds : List Declaration) (ns : List Name) → All (λ k. k < length ds) (numbers_among ds ns)
-numbers_below ds [] = All-nil (λ k. k < length ds)
-numbers_below ds (n ∷ ns) = by (number_among ds n) (numbered_below ds n) (numbers_below ds ns)
-  where
-    by : (o : Option ℕ) → IfSome o (λ k. k < length ds) → All (λ k. k < length ds) (numbers_among ds ns) → All (λ k. k < length ds) (cons_option o (numbers_among ds ns))
-    by None here rest = rest
-    by (Some k) here rest = All-cons (λ j. j < length ds) k (numbers_among ds ns) here rest
 
 once_holds : (P : ℕ → Type 0) (seen numbers : List ℕ) → All P seen → All P numbers → All P (fold with_number seen numbers)
 once_holds P seen [] first rest = first
@@ -201,9 +192,9 @@ module _ (trees : List Tree) (accepted : IsAccepted trees) (controllers : ℕ) (
       row_within : (t : Transition) → TransitionWithin E S.states S.events (transition_symbol (written m t))
       row_within t = record {
         from = once_holds (IsMember E S.states) [] (numbers_among (state_members m) (names_written t.states)) (All-nil (IsMember E S.states))
-            (All-weaker (λ k. k < length (state_members m)) (IsMember E S.states) state_within (numbers_among (state_members m) (names_written t.states)) (numbers_below (state_members m) (names_written t.states)));
+            (All-weaker (λ k. k < length (state_members m)) (IsMember E S.states) state_within (numbers_among (state_members m) (names_written t.states)) (positions_below (state_members m) (names_written t.states)));
         on = once_holds (IsMember E S.events) [] (numbers_among (event_members m) (names_written t.events)) (All-nil (IsMember E S.events))
-            (All-weaker (λ k. k < length (event_members m)) (IsMember E S.events) event_within (numbers_among (event_members m) (names_written t.events)) (numbers_below (event_members m) (names_written t.events)));
+            (All-weaker (λ k. k < length (event_members m)) (IsMember E S.events) event_within (numbers_among (event_members m) (names_written t.events)) (positions_below (event_members m) (names_written t.events)));
         next = next_within t.next;
       }
 

@@ -5,9 +5,10 @@ ghost use Rattle.slicc_lex.specs.Prelude.{AreEnded};
 use crate::forms::Reading;
 use ruby_base::Seq;
 use ruby_outside::RowText;
-use slicc_ast::tree::{Expr, Operand, Operator, Span, Suffix};
+use slicc_ast::tree::{Expr, Operand, Operator, Suffix};
 use slicc_expr::expr;
 use slicc_lex::Token;
+use slicc_plan::span_of;
 
 fn operator_text(operator: Operator) -> &'static str {
     match operator {
@@ -22,27 +23,6 @@ fn operator_text(operator: Operator) -> &'static str {
         Operator::Plus => "+",
         Operator::Minus => "-",
         Operator::Times => "*",
-    }
-}
-
-fn span_of(e: &Expr) -> Span {
-    match e {
-        Expr::Operation { span, .. } => *span,
-        Expr::Not(_, span) => *span,
-        Expr::Negate(_, span) => *span,
-        Expr::Postfix { span, .. } => *span,
-        Expr::Number(_, span) => *span,
-        Expr::True(span) => *span,
-        Expr::False(span) => *span,
-        Expr::Nothing(span) => *span,
-        Expr::Variable(name) => name.span,
-        Expr::Member { span, .. } => *span,
-        Expr::Call { span, .. } => *span,
-        Expr::New(_, span) => *span,
-        Expr::IsValid(_, span) => *span,
-        Expr::IsInvalid(_, span) => *span,
-        Expr::Cast { span, .. } => *span,
-        Expr::Group(_, span) => *span,
     }
 }
 

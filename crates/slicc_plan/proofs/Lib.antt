@@ -11,6 +11,7 @@ pub mod Room
 pub mod SetupFields
 pub mod SetupNetworks
 mod SetupParts
+pub mod ExpressionSpans
 mod Subjects
 pub mod Counted
 pub mod CountsOfSymbols
@@ -20,7 +21,7 @@ pub mod Names
 mod Networks
 mod NumberedTypes
 pub mod Numbering
-mod Pairs
+pub mod Pairs
 pub mod Reading
 mod Received
 mod Rooms

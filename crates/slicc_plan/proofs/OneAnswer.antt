@@ -6,7 +6,7 @@ use Rattle.slicc_plan.specs.declared.broken.Subject.{Subject}
 use Rattle.slicc_plan.specs.declared.broken.Subject.TheVariants.{Declarations, Bodies, Machines}
 use Rattle.slicc_plan.specs.declared.refusal.Refusal.{Refusal}
 use Rattle.slicc_plan.specs.AllRules.{nothing, keeps_all, breaks_one, no_memory}
-use Rattle.slicc_plan.specs.Prelude.{Common, rule, IsAccepted, IsPlanOf, IsToldOf, of_declarations, of_bodies, of_machines, common_part, IsFirstBroken, number_of, rank_in, rank_of, second_rank, subject_of}
+use Rattle.slicc_plan.specs.Prelude.{Common, rule, IsAccepted, IsPlanOf, IsToldOf, of_declarations, of_bodies, of_machines, common_part, IsFirstBroken, number_of, rank_in, second_rank, subject_of}
 use Rattle.slicc_plan.proofs.Firsts.{first_rank}
 
 abbrev pub rule_at : Broken → Common

@@ -102,7 +102,8 @@ has_each n kept (x ∷ xs) has below =
         let long = length-append kept (x ∷ []) in
         omega (arith, split, parts, here, long, has)
 
-positions_below : (ds : List Declaration) (ns : List Name) → All (λ k. k < length ds) (numbers_among ds ns)
+-- the numbers of names among declarations are below how many these are
+pub positions_below : (ds : List Declaration) (ns : List Name) → All (λ k. k < length ds) (numbers_among ds ns)
 positions_below ds [] = All-nil (λ k. k < length ds)
 positions_below ds (n ∷ ns) = by (positions_below ds ns) (number_among ds n) refl
   where

@@ -20,7 +20,6 @@ use Rattle.slicc_ast.specs.declared.tree.machine.Literal.TheVariants.{Number, Mi
 use Rattle.slicc_ast.specs.declared.tree.machine.Machine.{Machine}
 use Rattle.slicc_plan.specs.Prelude.{Attribute, first_attribute, Declaration, machine, states, parameter, object, action, function, symbol, state, member as member_declaration, formal, local, within, machine_declarations, FieldIn, field_type, field_kind, initial_of, initial_value, structure_fields, value_by, value_written, literal_value, value_in, value_of_kind, values_of, written_value, parameter_table, range_values, set_value, setup_in, table_of_lines, table_size, tables_from, values_from, line_structure, tables_of, plain_kind, KnownType, is_built_in, type_in}
 use Rattle.slicc_plan.specs.Declarations.{enumeration, structure, out_port, in_port}
-use Rattle.slicc_plan.specs.MachineValues.{value_of_type}
 use Rattle.slicc_plan.proofs.NoReferences.{all_flat}
 use Rattle.slicc_plan.specs.declared.built_in.BuiltInType.TheVariants.{Cycles}
 

@@ -1,7 +1,7 @@
 -- The values of a machine: its parameters and objects of a type whose values are no references, in the order of the text. Each
 -- begins as the literal that a parameter may have, else as the default of its kind, but as 1 where its type is `Cycles`. One
 -- whose type has references is always a reference to nothing, since nothing is ever written to a parameter or an object.
-use Rattle.std.specs.Prelude.{ℕ, Bool, true, false, pos, neg_ℤ, Option, None, Some, List, [], ◌∷◌, flat_map, option_and_then, codes}
+use Rattle.std.specs.Prelude.{ℕ, Bool, true, pos, neg_ℤ, Option, None, Some, List, [], ◌∷◌, flat_map, option_and_then, codes}
 use Rattle.std.specs.Str.{bytes_eq}
 use Rattle.ruby_value.specs.declared.kind.Kind.{Kind}
 use Rattle.ruby_value.specs.declared.kind.Kind.TheVariants as kind

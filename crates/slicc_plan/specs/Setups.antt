@@ -1,7 +1,7 @@
 -- What a machine of a protocol is to its controllers, by its number and the sizes that a topology sets. After its tables of
 -- lines comes that of its values, its parameters and objects, and its buffers are those of type `MessageBuffer`, numbered from 0
 -- in the order of the text. Without a size that is set a cache has 64 sets of 4 ways.
-use Rattle.std.specs.Prelude.{ℕ, ◌≡◌, ◌≤◌, ◌*◌, ◌+◌, ◌==◌, All, IfSome, length, Bool, true, false, cond, ℤ, pos, neg_ℤ, Option, None, Some, List, [], ◌∷◌, ◌++◌, filter_map, find, flat_map, is_none, map, slice_get, unwrap_or, codes}
+use Rattle.std.specs.Prelude.{ℕ, ◌≡◌, ◌≤◌, ◌*◌, ◌+◌, ◌==◌, All, IfSome, length, Bool, true, false, cond, ℤ, pos, Option, None, Some, List, [], ◌∷◌, ◌++◌, find, flat_map, is_none, map, slice_get, unwrap_or, codes}
 use Rattle.std.specs.Option.{option_map}
 use Rattle.ruby_value.specs.declared.kind.Kind.{Kind}
 use Rattle.ruby_value.specs.declared.kind.Kind.TheVariants as kind

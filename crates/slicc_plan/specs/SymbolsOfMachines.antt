@@ -37,7 +37,7 @@ use Rattle.slicc_plan.specs.MessageTypes.{message_type}
 use Rattle.slicc_plan.specs.Setups.{attributes_of, buffer_place, is_ordered}
 use Rattle.slicc_plan.specs.Tables.{line_structure, table_in}
 use Rattle.slicc_plan.specs.TypeNumbers.{declared_number, kind_or_bool, no_structure, structure_number, value_kind}
-use Rattle.slicc_plan.specs.Types.{KnownType, structured, declared_type, type_in}
+use Rattle.slicc_plan.specs.Types.{structured, declared_type, type_in}
 
 -- States and events.
 

@@ -1,8 +1,7 @@
 -- The enumerations and the structures of a protocol as symbols. Each stands at the place that is its number: the enumerations
 -- that are built in come before those that are declared, and the structure that is built in after those that are.
-use Rattle.std.specs.Prelude.{ℕ, ◌++◌, Option, None, Some, List, [], ◌∷◌, flat_map, map, position, codes}
+use Rattle.std.specs.Prelude.{ℕ, ◌++◌, Option, None, List, [], ◌∷◌, flat_map, map, position, codes}
 use Rattle.std.specs.Str.{bytes_eq}
-use Rattle.ruby_value.specs.declared.kind.Kind.{Kind}
 use Rattle.ruby_value.specs.Prelude.{default_value}
 use Rattle.ruby_symbols.specs.declared.types.EnumerationSymbol.{EnumerationSymbol}
 use Rattle.ruby_symbols.specs.declared.types.FieldSymbol.{FieldSymbol}

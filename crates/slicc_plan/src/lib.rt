@@ -15,6 +15,7 @@ mod plan;
 mod refusal;
 mod row;
 mod setup;
+mod spans;
 mod symbol_laws;
 
 pub use answer::{answer_is_one, phases_answer, told_is_first_of_all};
@@ -34,6 +35,7 @@ pub use setup::{
     tables_have_room,
 };
 pub use slicc_ast::tree::Span;
+pub use spans::span_of;
 pub use symbol_laws::{
     counts_are_of_symbols, lists_have_numbers, machines_are_few, names_have_one_numbering,
     needs_are_of_symbols, networks_are_received_once, networks_carry_one_message,

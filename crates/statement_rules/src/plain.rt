@@ -10,10 +10,10 @@ use body_types::{
 };
 use call_types::not_writable;
 use declared_types::KnownType;
-use expression_types::{broken_where, span_of, typed};
+use expression_types::{broken_where, typed};
 use ruby_base::NoMemory;
 use slicc_ast::tree::{Expr, Name, Span, TypeName};
-use slicc_plan::{Broken, BuiltInType, Rule, earlier_of_two};
+use slicc_plan::{Broken, BuiltInType, Rule, earlier_of_two, span_of};
 use std::alloc::Global;
 
 /// Whether what is for actions alone is allowed.

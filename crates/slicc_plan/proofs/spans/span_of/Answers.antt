@@ -1,7 +1,7 @@
-use Rattle.std.proofs.Common.{◌≡◌, ◌∙◌, ap, sym}
+use Rattle.std.proofs.Common.{◌∙◌, ap, sym}
 use Rattle.slicc_plan.specs.Prelude.{span_of}
-use Rattle.expression_types.proofs.Boxes.{span_of_Cast}
-use Rattle.expression_types.proofs.operators.span_of.Goals as goal
+use Rattle.slicc_plan.proofs.ExpressionSpans.{span_of_Cast}
+use Rattle.slicc_plan.proofs.spans.span_of.Goals as goal
 
 pub returns-in-Cast : goal.returns-in-Cast
 returns-in-Cast c =
