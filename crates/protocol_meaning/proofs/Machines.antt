@@ -50,6 +50,7 @@ use Rattle.protocol_runs.proofs.Ranges.{first-free}
 use Rattle.body_meaning.specs.Prelude.{Reading}
 use Rattle.protocol_meaning.proofs.Kept.{ranges_are_kept}
 use Rattle.slicc_plan.proofs.Machines.{symbols_counted}
+use Rattle.slicc_plan.proofs.Pairs.{positions_below}
 use Rattle.slicc_plan.proofs.There.{There, found_passes, get_right, in_machine, machine_there, there_found}
 use Rattle.protocol_meaning.proofs.Bounds.{Bounds}
 use Rattle.protocol_meaning.proofs.Reading.{ReadingWithin, TransitionWithin, bounds_of}
