@@ -7,7 +7,6 @@ ghost use Rattle.ctl_face.specs.Prelude.{last_cycle};
 
 mod row;
 mod run;
-mod script;
 
 use row::{Row, row_of};
 use ruby_outside::{Got, Library, Sink, put};

@@ -1,35 +1,61 @@
 // Calls over libraries and sinks in memory: those that fail where a line says so, and calls with long texts. They are the rows of a list, and
 // of each are printed a line `== LINE`, what the sink then holds, the status, and whether a record is kept.
+ghost use Rattle.std.specs.Prelude.{◌<◌, IfSome, length};
+
 use crate::row::{add, row_of};
 use crate::table::end_of;
+use made_files::{add_files, number};
 use ruby_base::{NoMemory, Seq, Text};
 use ruby_cli::ruby;
-use ruby_outside::{Got, Library, MemLibrary, MemSink, OpenGate, RowText, Sink};
+use ruby_outside::{Library, MemLibrary, MemSink, OpenGate, RowText};
 use std::alloc::Global;
 use std::sync::Wait;
 use std::thread::Threads;
-
-// The most bytes that each file of a call may have.
-const LIMIT: u64 = 1_048_576;
 
 // The most bytes of a call's text, and of one of which only the last lines are printed.
 const ROOM: u64 = 4_096;
 
 const LONG_ROOM: u64 = 16_777_216;
 
-// Which read of a library and which write of a sink fails, counted from 1, or 0 for none; how many bytes a write takes and how many the sink,
-// at most; and how many of the last lines that it then holds are printed, at most.
+/// Which read of a library and which write of a sink fails, counted from 1, or 0 for none; how many bytes a write takes and how many the
+/// sink, at most; how many of the last lines that it then holds are printed, at most; and which word of the line names the files of the
+/// library, after which come the words of the call.
 #[derive(Clone, Copy)]
-struct Planned {
+pub(crate) struct Planned {
     read: u64,
     write: u64,
     most: u64,
     room: u64,
     lines: u64,
+    pub(crate) named: usize,
 }
 
-fn number(word: &str) -> u64 {
-    word.parse::<u64>().unwrap_or(0)
+/// What the words of a line plan, if they plan something.
+pub(crate) fn said(words: &[String]) -> Option<Planned>
+    ensures { IfSome result (λ planned. planned.named < length words.now) }
+{
+    let kind = words.first()?.as_str();
+    if kind == "fails" && words.len() > 4 {
+        return Some(Planned {
+            read: number(words[1].as_str()),
+            write: number(words[2].as_str()),
+            most: number(words[3].as_str()),
+            room: ROOM,
+            lines: ROOM,
+            named: 4,
+        });
+    }
+    if kind == "ends" && words.len() > 2 {
+        return Some(Planned {
+            read: 0,
+            write: 0,
+            most: ROOM,
+            room: LONG_ROOM,
+            lines: number(words[1].as_str()),
+            named: 2,
+        });
+    }
+    None
 }
 
 // The last lines of a text, at most so many.
@@ -44,114 +70,6 @@ fn last_lines(text: &[u8], count: u64) -> &[u8] {
         }
     }
     text
-}
-
-// Adds so many lines, each with a number from 0 on between these.
-fn add_lines(made: &mut RowText, before: &str, after: &str, count: u64) {
-    for number in 0..count {
-        made.show(before, &number);
-        made.add(after);
-        made.add("\n");
-    }
-}
-
-// Adds a text in which a line with an `@` is there so many times, with the numbers from 0 in place of that.
-fn add_repeated(made: &mut RowText, text: &[u8], count: u64) {
-    for line in str::from_utf8(text).unwrap_or("").lines() {
-        match line.split_once('@') {
-            Some((before, after)) => add_lines(made, before, after, count),
-            None => {
-                made.add(line);
-                made.add("\n");
-            }
-        }
-    }
-}
-
-// A file of a list: its name, and what is made of it.
-#[derive(Clone, Copy)]
-struct File<'a> {
-    name: &'a str,
-    // How many bytes it has at least, spaces after it counted.
-    length: usize,
-    // How many times a line of it is there, where that isn't 0.
-    count: u64,
-}
-
-fn file_of(word: &str) -> File<'_> {
-    if let Some((name, count)) = word.split_once('*') {
-        return File {
-            name,
-            length: 0,
-            count: number(count),
-        };
-    }
-    let (name, length) = word.split_once('+').unwrap_or((word, "0"));
-    File {
-        name,
-        length: number(length) as usize,
-        count: 0,
-    }
-}
-
-// What is made of a file's text.
-fn made_of(alloc: Global, text: &[u8], file: &File<'_>) -> RowText {
-    let mut made = RowText::new(alloc);
-    if file.count > 0 {
-        add_repeated(&mut made, text, file.count);
-    } else {
-        made.add_bytes(text);
-        for _ in text.len()..file.length {
-            made.add(" ");
-        }
-    }
-    made
-}
-
-fn named(alloc: Global, name: &str, text: &[u8]) -> Result<(Text, Text), NoMemory> {
-    let name = Text::copied(alloc, name.as_bytes())?;
-    Ok((name, Text::copied(alloc, text)?))
-}
-
-// Adds a file that is there.
-fn add_file<L: Library>(
-    alloc: Global,
-    library: &mut L,
-    file: &File<'_>,
-    files: &mut Seq<(Text, Text)>,
-) -> Result<(), NoMemory> {
-    let Got::Bytes(text) = library.read(file.name, LIMIT) else {
-        return Ok(());
-    };
-    let made = made_of(alloc, &text, file);
-    let named = named(alloc, file.name, made.bytes());
-    drop(made);
-    drop(text);
-    files.push(named?)
-}
-
-// Adds the files of a list, with commas between them.
-fn add_files<L: Library>(
-    alloc: Global,
-    library: &mut L,
-    list: &str,
-    files: &mut Seq<(Text, Text)>,
-) -> Result<(), NoMemory> {
-    for word in list.split(',') {
-        add_file(alloc, library, &file_of(word), files)?;
-    }
-    Ok(())
-}
-
-// Makes a call, and answers its status and whether a record is kept.
-fn made<R: Threads + Wait + Sync, L: Library, S: Sink>(
-    rt: &R,
-    alloc: Global,
-    call: &[String],
-    library: &mut L,
-    sink: &mut S,
-) -> (u8, bool) {
-    end_of(ruby(rt, alloc, call, library, sink, &OpenGate))
 }
 
 // Adds the row of a call that was made.
@@ -185,7 +103,8 @@ fn add_planned<R: Threads + Wait + Sync>(
     match faults_of(rows.alloc(), planned) {
         Ok((reads, mut sink)) => {
             let mut library = MemLibrary::new(rows.alloc(), files, reads);
-            let made = made(rt, rows.alloc(), call, &mut library, &mut sink);
+            let done = ruby(rt, rows.alloc(), call, &mut library, &mut sink, &OpenGate);
+            let made = end_of(done);
             drop(library);
             add_made(rows, line, last_lines(sink.bytes(), planned.lines), made);
             drop(sink);
@@ -197,48 +116,22 @@ fn add_planned<R: Threads + Wait + Sync>(
     }
 }
 
-// What the words of a line say: what is planned, the list of the files, and the words of the call.
-fn said(words: &[String]) -> Option<(Planned, &String, &[String])> {
-    match words {
-        [kind, read, write, most, files, call @ ..] if kind.as_str() == "fails" => {
-            let planned = Planned {
-                read: number(read.as_str()),
-                write: number(write.as_str()),
-                most: number(most.as_str()),
-                room: ROOM,
-                lines: ROOM,
-            };
-            Some((planned, files, call))
-        }
-        [kind, lines, files, call @ ..] if kind.as_str() == "ends" => {
-            let planned = Planned {
-                read: 0,
-                write: 0,
-                most: ROOM,
-                room: LONG_ROOM,
-                lines: number(lines.as_str()),
-            };
-            Some((planned, files, call))
-        }
-        _ => None,
-    }
-}
-
-/// Adds the row of a line with these words.
+/// Adds the row of a line with these words, which plan this.
 pub(crate) fn add_row<R: Threads + Wait + Sync, L: Library>(
     rt: &R,
     rows: &mut RowText,
     line: &str,
+    planned: &Planned,
     words: &[String],
     library: &mut L,
-) {
-    let Some((planned, list, call)) = said(words) else {
-        return rows.add("no row\n");
-    };
+)
+    requires { planned.now.named < length words.now }
+{
     let mut files = Seq::new(rows.alloc());
-    if add_files(rows.alloc(), library, list.as_str(), &mut files).is_err() {
+    let list = words[planned.named].as_str();
+    if add_files(rows.alloc(), library, list, &mut files).is_err() {
         drop(files);
         return rows.lose();
     }
-    add_planned(rt, rows, line, &planned, files, call);
+    add_planned(rt, rows, line, planned, files, &words[planned.named + 1..]);
 }

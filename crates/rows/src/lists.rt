@@ -1,4 +1,5 @@
 // The lists of rows, each a file with a row in each line.
+use crate::faults::said;
 use crate::row::add;
 use crate::{faults, table};
 use ruby_base::NoMemory;
@@ -6,15 +7,6 @@ use ruby_outside::{Got, Library, RowText};
 use std::alloc::Global;
 use std::sync::Wait;
 use std::thread::Threads;
-
-/// A list of calls.
-#[derive(Clone, Copy)]
-pub(crate) enum List {
-    /// Over the files of a library.
-    Calls,
-    /// Over libraries and sinks in memory.
-    Faults,
-}
 
 // The most bytes that a list may have.
 const LIST_LIMIT: u64 = 1_048_576;
@@ -35,59 +27,41 @@ fn add_words(alloc: Global, line: &str, words: &mut Vec<String>) -> Result<(), N
     Ok(())
 }
 
-// Adds the row of a line.
+// Adds the row of a line: of a call with planned faults, or of one over the library.
 fn add_line<R: Threads + Wait + Sync, L: Library>(
     rt: &R,
     rows: &mut RowText,
-    list: List,
     line: &str,
     library: &mut L,
 ) {
     let mut words = Vec::new(rows.alloc());
     match add_words(rows.alloc(), line, &mut words) {
-        Ok(()) => match list {
-            List::Calls => add(
+        Ok(()) => match said(words.as_slice()) {
+            Some(planned) => faults::add_row(rt, rows, line, &planned, words.as_slice(), library),
+            None => add(
                 rows,
                 table::row(rt, rows.alloc(), line, words.as_slice(), library),
             ),
-            List::Faults => faults::add_row(rt, rows, line, words.as_slice(), library),
         },
         Err(NoMemory) => rows.lose(),
     }
     drop(words);
 }
 
-fn add_lines<R: Threads + Wait + Sync, L: Library>(
-    rt: &R,
-    rows: &mut RowText,
-    list: List,
-    lines: &str,
-    library: &mut L,
-) {
-    for line in lines.lines() {
-        if is_row(line) {
-            add_line(rt, rows, list, line, library);
-        }
-    }
-}
-
-/// Adds the rows of a list, which is in the file of this name.
+/// Adds the rows of the list in the file of this name.
 pub(crate) fn add_list<R: Threads + Wait + Sync, L: Library>(
     rt: &R,
     rows: &mut RowText,
-    list: List,
     file: &str,
     library: &mut L,
 ) {
     match library.read(file, LIST_LIMIT) {
         Got::Bytes(lines) => {
-            add_lines(
-                rt,
-                rows,
-                list,
-                str::from_utf8(&lines).unwrap_or(""),
-                library,
-            );
+            for line in str::from_utf8(&lines).unwrap_or("").lines() {
+                if is_row(line) {
+                    add_line(rt, rows, line, library);
+                }
+            }
             drop(lines);
         }
         _ => rows.lose(),

@@ -10,29 +10,16 @@ mod lists;
 mod row;
 mod table;
 
-use lists::{List, add_list};
-use ruby_outside::{FileLibrary, Library, RowText, Sink, StdSink, put};
-use std::alloc::Global;
+use lists::add_list;
+use ruby_outside::{FileLibrary, RowText, StdSink, put};
 use std::process::ExitCode;
-use std::sync::Wait;
-use std::thread::Threads;
-
-// Writes the rows of calls, and answers whether all were.
-fn write_calls<R: Threads + Wait + Sync, L: Library, S: Sink>(
-    rt: &R,
-    alloc: Global,
-    library: &mut L,
-    sink: &mut S,
-) -> bool {
-    let mut rows = RowText::new(alloc);
-    add_list(rt, &mut rows, List::Calls, "calls", library);
-    add_list(rt, &mut rows, List::Faults, "faults", library);
-    put(sink, rows.bytes()) && rows.is_whole()
-}
 
 fn main(rt: HostRuntime) -> ExitCode {
     let mut library = FileLibrary::new(rt.alloc(), &rt);
-    if write_calls(&rt, rt.alloc(), &mut library, &mut StdSink::new(&rt)) {
+    let mut rows = RowText::new(rt.alloc());
+    add_list(&rt, &mut rows, "calls", &mut library);
+    add_list(&rt, &mut rows, "faults", &mut library);
+    if put(&mut StdSink::new(&rt), rows.bytes()) && rows.is_whole() {
         ExitCode::SUCCESS
     } else {
         ExitCode::FAILURE

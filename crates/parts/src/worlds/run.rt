@@ -6,8 +6,7 @@ ghost use Rattle.protocol_meaning.specs.Prelude.{FitsPlan};
 
 use crate::worlds::entries::write_entries;
 use crate::worlds::row::Row;
-use crate::worlds::script::requests_of;
-use controller_rows::{Script, plan_of};
+use controller_rows::{Script, plan_of, requests_of};
 use protocol_meaning::topologies_fit;
 use ruby_base::{NoMemory, Text};
 use ruby_options::{Command, Options};

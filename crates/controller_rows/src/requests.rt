@@ -47,7 +47,7 @@ fn add_request(alloc: Global, line: &str, requests: &mut Vec<Issued>) -> Result<
 }
 
 /// The requests of a file, in their order. A line that says none, as a comment, is passed over.
-pub(crate) fn requests_of(alloc: Global, text: &str) -> Result<Vec<Issued>, NoMemory> {
+pub fn requests_of(alloc: Global, text: &str) -> Result<Vec<Issued>, NoMemory> {
     let mut requests = Vec::new(alloc);
     for line in text.lines() {
         add_request(alloc, line, &mut requests)?;
