@@ -1,6 +1,5 @@
 // Runs under a script of requests: the rows of a list, and of each a line `== NAME` and below it the whole journal of the run, or how
 // it ended alone.
-mod entries;
 
 ghost use Rattle.std.specs.Prelude.{◌≤◌};
 ghost use Rattle.ctl_face.specs.Prelude.{last_cycle};
@@ -31,25 +30,7 @@ fn write_row<L: Library, S: Sink>(
         && write_run(alloc, library, sink, row)
 }
 
-// Writes the row of a line, if it says one, and answers whether that was written whole.
-fn write_line<L: Library, S: Sink>(
-    alloc: Global,
-    line: &str,
-    library: &mut L,
-    sink: &mut S,
-) -> bool {
-    let Ok(words) = line.split_whitespace().collect::<Vec<&str>>(alloc) else {
-        return false;
-    };
-    let row = row_of(words.as_slice());
-    drop(words);
-    match row {
-        Some(row) => write_row(alloc, library, sink, &row),
-        None => true,
-    }
-}
-
-// Writes the rows of lines until one isn't written whole.
+// Writes the rows of those lines that say one, until one isn't written whole.
 fn write_lines<L: Library, S: Sink>(
     alloc: Global,
     lines: &str,
@@ -57,7 +38,9 @@ fn write_lines<L: Library, S: Sink>(
     sink: &mut S,
 ) -> bool {
     for line in lines.lines() {
-        if !write_line(alloc, line, library, sink) {
+        if let Some(row) = row_of(line)
+            && !write_row(alloc, library, sink, &row)
+        {
             return false;
         }
     }

@@ -6,18 +6,20 @@
 //! from a new line's, the copies for another controller and the finished requests. What has fired is sealed and applied, and else the
 //! draft is dropped. There is a scan for each statement, operator and built-in call, and for the faults. What is expected stands in
 //! `crates/parts/stdout`, worked out by hand from the rules of the language; a further row is a few lines in a file of the folder `scans` in
-//! `crates/parts/data`, and a line there.
+//! `crates/parts/data`, and a line there. And there are the lines of whole journals, which that program prints of runs.
 #![tactic(auto)]
 
 mod after;
 mod before;
 mod begun;
+mod entries;
 mod left;
 mod list;
 mod protocol;
 mod scans;
 mod shown;
 
+pub use entries::write_entries;
 use list::{LISTS, add_list};
 use ruby_outside::{Library, RowText};
 

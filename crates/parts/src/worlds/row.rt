@@ -18,16 +18,19 @@ pub(crate) struct Row<'a> {
 // The greatest bound on cycles.
 const LAST_CYCLE: u64 = 1_000_000_000_000;
 
-/// The row that the words of a line say, if they say one.
-pub(crate) fn row_of<'a>(words: &[&'a str]) -> Option<Row<'a>>
+/// The row that a line says, if it says one.
+pub(crate) fn row_of(line: &str) -> Option<Row<'_>>
     ensures { IfSome result (λ row. row.limits.cycles ≤ last_cycle) }
 {
-    let [name, protocol, topology, script, seed, cycles, limit, shown] = words else {
-        return None;
-    };
-    let seed = seed.parse::<u64>().ok()?;
-    let cycles = cycles.parse::<u64>().ok()?;
-    let limit = limit.parse::<u64>().ok()?;
+    let mut words = line.split_whitespace();
+    let name = words.next()?;
+    let protocol = words.next()?;
+    let topology = words.next()?;
+    let script = words.next()?;
+    let seed = words.next()?.parse::<u64>().ok()?;
+    let cycles = words.next()?.parse::<u64>().ok()?;
+    let limit = words.next()?.parse::<u64>().ok()?;
+    let shown = words.next()?;
     if cycles > LAST_CYCLE {
         return None;
     }
@@ -41,6 +44,6 @@ pub(crate) fn row_of<'a>(words: &[&'a str]) -> Option<Row<'a>>
             cycles,
             limit,
         },
-        whole: *shown == "journal",
+        whole: shown == "journal",
     })
 }

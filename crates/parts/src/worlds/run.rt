@@ -4,7 +4,6 @@ ghost use Rattle.ctl_face.specs.Prelude.{last_cycle};
 ghost use Rattle.controller_rows.specs.Prelude.{opening};
 ghost use Rattle.protocol_meaning.specs.Prelude.{FitsPlan};
 
-use crate::worlds::entries::write_entries;
 use crate::worlds::row::Row;
 use controller_rows::{Script, plan_of, requests_of};
 use protocol_meaning::topologies_fit;
@@ -13,6 +12,7 @@ use ruby_options::{Command, Options};
 use ruby_outside::{Got, Library, Sink};
 use ruby_topology::{TopoFault, Topology, read_topology};
 use ruby_world::{RunLimits, RunRecord, run_whole};
+use scan_rows::write_entries;
 use slicc_interpreter::Interpreted;
 use slicc_plan::{Plan, copy_plan};
 use std::alloc::Global;

@@ -127,7 +127,7 @@ fn write_lines<S: Sink>(
 }
 
 /// Writes the lines of a journal until one isn't written whole, and answers whether all were.
-pub(crate) fn write_entries<S: Sink>(
+pub fn write_entries<S: Sink>(
     alloc: Global,
     sink: &mut S,
     plan: &Plan,
