@@ -1,0 +1,12 @@
+pub mod Tables
+pub mod Values
+pub mod Operations
+pub mod Shapes
+pub mod Sign
+pub mod Ways
+pub mod Rules
+pub mod Fits
+pub mod EachPlace
+pub mod Answers
+pub mod Table
+pub mod Prelude
