@@ -1,13 +1,27 @@
 -- Each act is done by the call of its name, where the machine serves it.
-use Rattle.std.proofs.Common.{◌≡◌, ℕ, ℤ, Bool, true, List, Option, Result, Ok, refl, sym, ap}
+use Rattle.std.proofs.Common.{◌≡◌, ℕ, ℤ, Bool, true, false, is_some, unwrap_or, List, Option, None, Some, Result, Ok, Err, refl, sym, ap}
+use Rattle.std.specs.Borrow.{Bor}
+use Rattle.std.specs.Option.{ok_or}
+use Rattle.ruby_value.specs.declared.fault.Fault.TheVariants as fault
+use Rattle.ruby_value.specs.declared.fault.Fault.TheVariants.{Reference}
+use Rattle.ctl_face.specs.declared.message_at.MessageAt.{MessageAt}
+use Rattle.ctl_face.specs.declared.trouble.Trouble.TheVariants as trouble
 use Rattle.ruby_value.specs.declared.message.Message.{Message}
 use Rattle.ruby_value.specs.declared.value.Block.{Block}
 use Rattle.ruby_value.specs.declared.value.Ref.{Ref}
 use Rattle.ruby_value.specs.declared.value.Value.{Value}
 use Rattle.ctl_face.specs.declared.trouble.Trouble.{Trouble}
-use Rattle.ctl_face.specs.Prelude.{again, allocate, avail, probe, block_after_write, read_back, write_back, deallocate, Does, DoesWith, Reads, enqueue, free, get, LocalView, lookup, reference_to, pop, ready, required_front, recycle, set, stall, set_state, state, touch, wake, wake_all}
-use Rattle.acts.specs.Prelude.{Now, Me, Get, Set, Lookup, Avail, Probe, Allocate, Deallocate, Touch, Free, Ready, Front, Pop, Stall, Wake, WakeAll, Recycle, Send, ReadBack, WriteBack, State, SetState, Again, act, DoesAs, itself, serves}
-use Rattle.acts.proofs.Served.{changes_does, not_served_does, reads_does}
+use Rattle.ctl_face.specs.Prelude.{again, allocate, avail, probe, block_after_write, read_back, write_back, deallocate, Does, DoesWith, Reads, answered, enqueue, free, field_behind, front_now, get, message_at, LocalView, lookup, reference_to, pop, ready, required_front, recycle, set, stall, set_state, state, touch, wake, wake_all}
+use Rattle.acts.specs.Prelude.{Now, Me, Get, Set, Lookup, Avail, Probe, Allocate, Deallocate, Touch, Free, Ready, Front, Pop, Stall, Wake, WakeAll, Recycle, Send, ReadBack, WriteBack, State, SetState, Again, act, DoesAs, itself, lent, message_there, no_message, serves}
+use Rattle.acts.proofs.Served.{answered_reads, changes_does, faults_does, means_does, not_served_does, reads_does}
+
+there_is : (o p : Option Message) → true ≡ is_some o → p ≡ o → ok_or o fault.Front ≡ Ok (unwrap_or p no_message)
+there_is (Some m) p there is = ap (λ (q : Option Message). Ok (unwrap_or q no_message)) (sym is)
+there_is None p there is = cc
+
+not_there : (o : Option Message) → false ≡ is_some o → ok_or o fault.Front ≡ Err fault.Front
+not_there (Some m) none = cc
+not_there None none = refl
 
 module _ (v : LocalView) where
   pub now_does : (x : ℕ) → x ≡ v.now → DoesAs itself (act Now) (Ok x) v v
@@ -19,6 +33,12 @@ module _ (v : LocalView) where
   pub get_does : (r : Ref) (field : ℕ) (result : Result Value Trouble) → serves v.machine (Get r field) ≡ true → Reads (get v r field) result → DoesAs itself (act (Get r field)) result v v
   get_does r field result s does = reads_does (Get r field) v s (get v r field) result refl does
 
+  pub field_does : (r : Ref) (field : ℕ) (x : Bor Value) → serves v.machine (Get r field) ≡ true → Some x.now ≡ field_behind v r field → DoesAs lent (act (Get r field)) (Ok x) v v
+  field_does r field x s is = means_does (Get r field) v s lent x (get v r field) refl (ap (λ (o : Option Value). ok_or o Reference) (sym is))
+
+  pub no_field_does : (r : Ref) (field : ℕ) → serves v.machine (Get r field) ≡ true → None ≡ field_behind v r field → DoesAs lent (act (Get r field)) (Err (trouble.Fault Reference)) v v
+  no_field_does r field s is = faults_does (Get r field) v s lent Reference (get v r field) refl (ap (λ (o : Option Value). ok_or o Reference) (sym is))
+
   pub set_does : (r : Ref) (field : ℕ) (value : Value) (result : Result (Unit {0}) Trouble) (w : LocalView) → serves v.machine (Set r field value) ≡ true → Does (set v r field value) result v w → DoesAs itself (act (Set r field value)) result v w
   set_does r field value result w s does = changes_does (Set r field value) v s (set v r field value) tt result w refl does
 
@@ -28,8 +48,8 @@ module _ (v : LocalView) where
   pub avail_does : (table : ℕ) (line : ℕ) (x : Bool) → serves v.machine (Avail table line) ≡ true → x ≡ avail v table line → DoesAs itself (act (Avail table line)) (Ok x) v v
   avail_does table line x s is = reads_does (Avail table line) v s (Ok (avail v table line)) (Ok x) refl (ap (λ (y : Bool). Ok y) (sym is))
 
-  pub probe_does : (table : ℕ) (line : ℕ) (result : Result ℕ Trouble) → serves v.machine (Probe table line) ≡ true → Reads (probe v table line) result → DoesAs itself (act (Probe table line)) result v v
-  probe_does table line result s does = reads_does (Probe table line) v s (probe v table line) result refl does
+  pub probe_does : (table : ℕ) (line : ℕ) (result : Result ℕ Trouble) → serves v.machine (Probe table line) ≡ true → result ≡ answered (probe v table line) → DoesAs itself (act (Probe table line)) result v v
+  probe_does table line result s is = reads_does (Probe table line) v s (probe v table line) result refl (answered_reads (probe v table line) result is)
 
   pub allocate_does : (table : ℕ) (line : ℕ) (result : Result Ref Trouble) (w : LocalView) → serves v.machine (Allocate table line) ≡ true → DoesWith (allocate v table line) (reference_to table line) result v w → DoesAs itself (act (Allocate table line)) result v w
   allocate_does table line result w s does = changes_does (Allocate table line) v s (allocate v table line) (reference_to table line) result w refl does
@@ -48,6 +68,12 @@ module _ (v : LocalView) where
 
   pub front_does : (buffer : ℕ) (result : Result Message Trouble) → serves v.machine (Front buffer) ≡ true → Reads (required_front v buffer) result → DoesAs itself (act (Front buffer)) result v v
   front_does buffer result s does = reads_does (Front buffer) v s (required_front v buffer) result refl does
+
+  pub front_at_does : (buffer : ℕ) (at : MessageAt) → serves v.machine (Front buffer) ≡ true → true ≡ ready v buffer → message_at v at ≡ front_now v buffer → DoesAs (message_there v) (act (Front buffer)) (Ok at) v v
+  front_at_does buffer at s there is = means_does (Front buffer) v s (message_there v) at (required_front v buffer) refl (there_is (front_now v buffer) (message_at v at) there is)
+
+  pub no_front_does : (buffer : ℕ) → serves v.machine (Front buffer) ≡ true → false ≡ ready v buffer → DoesAs (message_there v) (act (Front buffer)) (Err (trouble.Fault fault.Front)) v v
+  no_front_does buffer s none = faults_does (Front buffer) v s (message_there v) fault.Front (required_front v buffer) refl (not_there (front_now v buffer) none)
 
   pub pop_does : (buffer : ℕ) (result : Result (Unit {0}) Trouble) (w : LocalView) → serves v.machine (Pop buffer) ≡ true → Does (pop v buffer) result v w → DoesAs itself (act (Pop buffer)) result v w
   pop_does buffer result w s does = changes_does (Pop buffer) v s (pop v buffer) tt result w refl does
@@ -82,4 +108,4 @@ module _ (v : LocalView) where
   pub again_does : (result : Result (Unit {0}) Trouble) (w : LocalView) → Does (Ok (again v)) result v w → DoesAs itself (act Again) result v w
   again_does result w does = changes_does Again v refl (Ok (again v)) tt result w refl does
 
-pub ruleset calls_of_acts = (not_served_does, now_does, me_does, get_does, set_does, lookup_does, avail_does, probe_does, allocate_does, deallocate_does, touch_does, free_does, ready_does, front_does, pop_does, stall_does, wake_does, wake_all_does, recycle_does, send_does, read_back_does, write_back_does, state_does, set_state_does, again_does)
+pub ruleset calls_of_acts = (not_served_does, now_does, me_does, get_does, field_does, no_field_does, set_does, lookup_does, avail_does, probe_does, allocate_does, deallocate_does, touch_does, free_does, ready_does, front_does, front_at_does, no_front_does, pop_does, stall_does, wake_does, wake_all_does, recycle_does, send_does, read_back_does, write_back_does, state_does, set_state_does, again_does)

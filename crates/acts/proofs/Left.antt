@@ -1,11 +1,11 @@
 -- Which locals bodies leave: that in which one begins, the one after an act, what is left of one that is left, and what any body
 -- leaves, whatever it answers. So a scan that is made of acts, in whatever form it has them, leaves such a local. And what holds of one.
-use Rattle.std.proofs.Common.{◌≡◌, ◌≤◌, ℕ, List, Result, Ok, Err, All, refl, sym, ap, subst, ◌∙◌, arith}
+use Rattle.std.proofs.Common.{◌≡◌, ℕ, List, Result, Ok, Err, All, refl, sym, ap, subst, ◌∙◌}
 use Rattle.ruby_value.specs.declared.fault.Fault.{Fault}
 use Rattle.ruby_value.specs.declared.setup.MachineSetup.{MachineSetup}
 use Rattle.ctl_face.specs.Prelude.{IsLawful, FitsReceiver, IsInRun, LocalView, SameScan}
-use Rattle.acts.specs.Prelude.{Act, answer, Acting, ends, stops, acts, follow, fault_of, run, HoldsAfter, Done, does, CountsStay, IsMarked, MarksStay, IsLeft, HasMailed}
-use Rattle.acts.proofs.Instances.{copies_have_receivers, counts_stay, mail_moves, marks_stay, stays_in_run, stays_in_scan, stays_lawful, stays_marked}
+use Rattle.acts.specs.Prelude.{Act, answer, Acting, ends, stops, acts, follow, run, HoldsAfter, Done, does, CountsStay, IsMarked, MarksStay, IsLeft, HasMailed}
+use Rattle.acts.proofs.Instances.{copies_have_receivers, counts_stay, mail_moves, marks_stay, stays_in_scan, stays_lawful, stays_marked}
 
 pub left_here : (v : LocalView) → IsLeft v v
 unfolding run

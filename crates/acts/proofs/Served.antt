@@ -4,7 +4,7 @@ use Rattle.ruby_value.specs.declared.fault.Fault.{Fault}
 use Rattle.ruby_value.specs.declared.fault.Fault.TheVariants.{Reference}
 use Rattle.ctl_face.specs.declared.trouble.Trouble.{Trouble}
 use Rattle.ctl_face.specs.declared.trouble.Trouble.TheVariants as trouble
-use Rattle.ctl_face.specs.Prelude.{DoesWith, Reads, LocalView}
+use Rattle.ctl_face.specs.Prelude.{DoesWith, Reads, answered, LocalView}
 use Rattle.acts.specs.Prelude.{Act, answer, act, ends, follow, run, DoesAs, itself, Done, changes, does, does_served, reads, serves}
 
 pub does-served : (a : Act) (v : LocalView) → serves v.machine a ≡ true → does a v ≡ does_served a v
@@ -14,6 +14,10 @@ does-served a v is = rw is refl
 pub does-not_served : (a : Act) (v : LocalView) → serves v.machine a ≡ false → does a v ≡ Err Reference
 unfolding does
 does-not_served a v is = rw is refl
+
+pub answered_reads : {A : Type 0} (want : Result A Fault) (result : Result A Trouble) → result ≡ answered want → Reads want result
+answered_reads (Ok a) result is = rw is refl
+answered_reads (Err fault) result is = rw is refl
 
 -- what an act does is what it does as a body
 run_act : (a : Act) (v : LocalView) → run (act a) v ≡ does a v
@@ -39,6 +43,17 @@ module _ (a : Act) (v : LocalView) (served : serves v.machine a ≡ true) where
   reads_does want (Ok x) is does = served_run ∙ is ∙ ap (reads v) does
   reads_does want (Err (trouble.Fault f)) is does = served_run ∙ is ∙ ap (reads v) does
   reads_does want (Err trouble.NoMemory) is does = tt
+
+  -- with an answer that stands for what is read
+  pub means_does : {R : Type 0} (means : R → answer a) (x : R) (want : Result (answer a) Fault) → does_served a v ≡ reads v want → want ≡ Ok (means x)
+      → DoesAs means (act a) (Ok x) v v
+  unfolding DoesAs
+  means_does means x want is does = served_run ∙ is ∙ ap (reads v) does
+
+  pub faults_does : {R : Type 0} (means : R → answer a) (fault : Fault) (want : Result (answer a) Fault) → does_served a v ≡ reads v want → want ≡ Err fault
+      → DoesAs means (act a) (Err (trouble.Fault fault)) v v
+  unfolding DoesAs
+  faults_does means fault want is does = served_run ∙ is ∙ ap (reads v) does
 
   pub changes_does : (want : Result LocalView Fault) (x : answer a) (result : Result (answer a) Trouble) (w : LocalView) → does_served a v ≡ changes x want → DoesWith want x result v w
       → DoesAs itself (act a) result v w

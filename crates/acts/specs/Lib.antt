@@ -9,4 +9,5 @@ pub mod Kept
 pub mod Mailed
 pub mod Added
 pub mod Left
+pub mod Lent
 pub mod Prelude

@@ -13,3 +13,4 @@ pub use Rattle.acts.specs.Kept.{AreMarked, CountsStay, IsMarked, KeepsMarks, Mar
 pub use Rattle.acts.specs.Mailed.{HasMailed, IsPosted}
 pub use Rattle.acts.specs.Added.{Added, AreNew, IsNew, after_adding, with_added}
 pub use Rattle.acts.specs.Left.{IsLeft}
+pub use Rattle.acts.specs.Lent.{lent, message_there, no_message}

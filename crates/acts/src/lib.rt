@@ -18,10 +18,10 @@ pub use body_laws::{
     what_comes_later_changes_nothing,
 };
 pub use ctl_face::{
-    Block, Fault, Fields, Local, MachineSetup, Message, NoMemory, Ref, Trouble, Value,
+    Block, Fault, Fields, Local, MachineSetup, Message, MessageAt, NoMemory, Ref, Trouble, Value,
 };
-pub use messages::{front, pop, ready, recycle, send, stall, wake, wake_all};
+pub use messages::{front, front_at, pop, ready, recycle, send, stall, wake, wake_all};
 pub use own::{again, me, now, set_state, state};
 pub use requests::{read_back, write_back};
 pub use required::what_is_served_is_what_a_local_requires;
-pub use tables::{allocate, avail, deallocate, free, get, lookup, probe, set, touch};
+pub use tables::{allocate, avail, deallocate, field, free, get, lookup, probe, set, touch};

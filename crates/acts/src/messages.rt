@@ -1,8 +1,11 @@
 // Acts on a controller's messages, each done where the machine serves it.
+ghost use Rattle.std.specs.Prelude.{IfOk};
+ghost use Rattle.ctl_face.specs.Prelude.{IsPlace};
+ghost use Rattle.acts.specs.Lent.{message_there};
 ghost use Rattle.acts.specs.Prelude.{Front, Pop, Ready, Recycle, Send, Stall, Wake, WakeAll, act, DoesAs, itself};
 
 use crate::serving::{is_line, not_served, serves_send};
-use ctl_face::{Fields, Local, Message, Trouble, receives};
+use ctl_face::{Fault, Fields, Local, Message, MessageAt, Trouble, receives};
 
 /// Does `Ready`: whether a buffer has a front.
 pub fn ready<T: Local>(local: &T, buffer: u16) -> Result<bool, Trouble>
@@ -22,6 +25,20 @@ pub fn front<T: Local>(local: &T, buffer: u16) -> Result<Message, Trouble>
         return Err(not_served());
     }
     local.front(buffer)
+}
+
+/// Does `Front` without taking memory: where the front of a buffer is. `Local::message` lends it, in the rest of the scan too.
+pub fn front_at<T: Local>(local: &T, buffer: u16) -> Result<MessageAt, Trouble>
+    ensures does { DoesAs (message_there (T.view local.now)) (act (Front buffer)) result (T.view local.now) (T.view local.now) }
+    ensures place { IfOk result (IsPlace (T.view local.now)) }
+{
+    if !receives(local.machine(), buffer) {
+        return Err(not_served());
+    }
+    match local.front_at(buffer) {
+        Some(at) => Ok(at),
+        None => Err(Trouble::Fault(Fault::Front)),
+    }
 }
 
 /// Does `Pop`: consumes the front of a buffer.

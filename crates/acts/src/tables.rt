@@ -1,8 +1,9 @@
 // Acts on a controller's tables, each done where the machine serves it.
+ghost use Rattle.acts.specs.Lent.{lent};
 ghost use Rattle.acts.specs.Prelude.{Allocate, Avail, Deallocate, Free, Get, Lookup, Probe, Set, Touch, act, DoesAs, itself};
 
 use crate::serving::{is_line, not_served, serves_get, serves_set};
-use ctl_face::{Local, Ref, Trouble, Value, deallocates, is_cache, is_tbe_table, looks_up};
+use ctl_face::{Fault, Local, Ref, Trouble, Value, deallocates, is_cache, is_tbe_table, looks_up};
 
 /// Does `Get`: the value of a field of the line that a reference names.
 pub fn get<T: Local>(local: &T, r: &Ref, field: u16) -> Result<Value, Trouble>
@@ -12,6 +13,19 @@ pub fn get<T: Local>(local: &T, r: &Ref, field: u16) -> Result<Value, Trouble>
         return Err(not_served());
     }
     local.get(r, field)
+}
+
+/// Does `Get` without taking memory: the value of a field of the line that a reference names, lent.
+pub fn field<'a, T: Local>(local: &'a T, r: &Ref, field: u16) -> Result<&'a Value, Trouble>
+    ensures { DoesAs lent (act (Get r.now field)) result (T.view local.now) (T.view local.now) }
+{
+    if !serves_get(local.machine(), r, field) {
+        return Err(not_served());
+    }
+    match local.field(r, field) {
+        Some(value) => Ok(value),
+        None => Err(Trouble::Fault(Fault::Reference)),
+    }
 }
 
 /// Does `Set`: writes a field of the line that a reference names.

@@ -31,7 +31,7 @@ unfoldable pub value_found : Option Value → Acting Thing
 value_found v = found own.Reference v >>= (λ x. ends (thing.Value x))
 
 unfoldable pub thing_built : Reading → ℕ → ℕ → List Value → Acting Thing
-thing_built s number on arguments = built_in s.setting number on arguments >>= (λ v. ends (thing_of v))
+thing_built s number on arguments = built_in s.kept number on arguments >>= (λ v. ends (thing_of v))
 
 -- A value as a member of an enumeration, by its number. What is none of its members counts as the first one, which is this project's
 -- own rule: by their types, the bodies of an accepted protocol give members.

@@ -39,12 +39,12 @@ abbrev pub leave : ℕ → Frame → Frame
 leave n frame = record frame { names = outermost n frame.names }
 
 -- In an action `address` is the line's address, and `cache_entry` and `tbe` are references to its entry and its TBE, where the
--- machine has such lines.
+-- machine has such lines. In a body references are of one sort.
 abbrev pub about_named : MachineSymbols → About → List ℕ → Option Thing
 about_named m a text =
     cond (bytes_eq text (codes "address")) (Some (thing.Value (value.Addr a.address)))
     (cond (bytes_eq text (codes "cache_entry")) (cond (is_some m.entry) (Some (thing.Value (value.Entry a.entry))) None)
-    (cond (bytes_eq text (codes "tbe")) (cond (is_some m.tbe) (Some (thing.Value (value.Tbe a.tbe))) None) None))
+    (cond (bytes_eq text (codes "tbe")) (cond (is_some m.tbe) (Some (thing.Value (value.Entry a.tbe))) None) None))
 
 abbrev pub thing_about : MachineSymbols → Option About → List ℕ → Option Thing
 thing_about m None text = None

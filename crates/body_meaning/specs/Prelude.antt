@@ -22,6 +22,6 @@ unfoldable pub use Rattle.body_meaning.specs.Bodies.{calls_within}
 pub use Rattle.body_meaning.specs.Trying.{Pair, Trying, acts, ends, follow_pairs, follow_scan, looks_up, nothing_known, stop_at, stops}
 unfoldable pub use Rattle.body_meaning.specs.Trying.{pairs_of, run_scan, then_try, with_known}
 pub use Rattle.body_meaning.specs.Actions.{action_block, block_checked, block_of, body_of_action, checked, if_checked, is_table, names_table, need, others_checked, otherwise_checked, row_checked}
-pub use Rattle.body_meaning.specs.Transition.{about, about_left, action_done, arguments_for, fired, found_tried, is_among, is_for, is_short, is_stall_among, known, permission_set, read_state, row_tried, state_argument, state_by, state_set, table_short, try, waiting}
+pub use Rattle.body_meaning.specs.Transition.{about, about_left, action_done, arguments_for, fired, found_tried, is_among, is_for, is_short, is_stall_among, known, next_asked, next_state, permission_set, read_state, row_tried, state_answered, state_argument, state_by, state_set, table_short, try, waiting}
 pub use Rattle.body_meaning.specs.Scan.{Scanned, after_port, by_outcome, by_try, left_idle, pairs_tried, port_block, port_done, port_tried, ports_tried, scan, unless_fired}
 pub use Rattle.body_meaning.specs.Round.{IsRoundOf}

@@ -106,7 +106,7 @@ module _ (s : Reading) (calls : Calls) where
   stalled port address frame =
       found own.Reference (port_named s.machine port)
       >>= (λ buffer. value s calls frame address
-      >>= (λ t. built_in s.setting stall_call buffer (value_in t ∷ []) >> went_on frame))
+      >>= (λ t. built_in s.kept stall_call buffer (value_in t ∷ []) >> went_on frame))
 
   -- Changes.
 
@@ -122,7 +122,7 @@ module _ (s : Reading) (calls : Calls) where
       >>= (λ p. at_place frame p
       >>= (λ v. values_of s calls frame arguments
       >>= (λ vs. found own.Reference (value_call v text)
-      >>= (λ n. built_in s.setting n 0 (v ∷ vs)
+      >>= (λ n. built_in s.kept n 0 (v ∷ vs)
       >>= (λ w. found own.Reference w
       >>= (λ x. with_place frame p x >>= went_on))))))
 
@@ -133,7 +133,7 @@ module _ (s : Reading) (calls : Calls) where
       >>= (λ t. place_of s calls frame block
       >>= (λ p. at_place frame p
       >>= (λ v. values_of s calls frame others
-      >>= (λ vs. built_in s.setting (write_callback (2 + length vs)) 0 (value_in t ∷ v ∷ vs)
+      >>= (λ vs. built_in s.kept (write_callback (2 + length vs)) 0 (value_in t ∷ v ∷ vs)
       >>= (λ w. found own.Reference w
       >>= (λ x. with_place frame p x >>= went_on))))))
   written_back _ frame = stops own.Reference

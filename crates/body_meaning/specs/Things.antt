@@ -1,5 +1,6 @@
 -- What expressions give, as the values that operators, calls and places take. Only a value is one: another thing counts as false
--- there, as no accepted protocol has it. `OOD` is a reference to nothing; of which sort isn't asked anywhere.
+-- there, as no accepted protocol has it. `OOD` is a reference to nothing, of the one sort that references
+-- have in bodies.
 use Rattle.std.specs.Prelude.{Bool, false, Option, None, Some}
 use Rattle.ruby_value.specs.declared.value.Value.{Value}
 use Rattle.ruby_value.specs.declared.value.Value.TheVariants as value

@@ -1,9 +1,12 @@
 -- What a `trigger` does: the state of its line is read, and then comes the first of these that applies. Where no written transition
 -- is for the state and the event, the fault is `invalid`. Where a table has fewer free lines than the actions have `check_allocate`
 -- statements for it, or where `z_stall` is among the actions, the transition is stalled: it runs no action, and the controller wakes
--- in the next cycle. Else its actions are done in order, then the next state is set, and then the access permission, where the
--- machine sets it. These see the line's entry and TBE as the actions have left them. Without a next state it is the state before.
--- Where the machine's own function reads states, an answer that is no state counts as the first one.
+-- in the next cycle. Else it is found which state it enters: the one that it names, the state before where it names none, and for `*`
+-- what the machine's `getNextState` answers on the address. Then its actions are done in order, then the state that it enters is set,
+-- and then the access permission, where the machine sets it. These two see the line's entry and TBE as the actions have left them, and
+-- `getNextState` sees all as it was before them. That it is asked of a transition that isn't stalled alone is this project's own rule,
+-- as it is that an answer of `getState` or `getNextState` that is none of the machine's states counts as the first one. A `*` in a
+-- machine without that function is the fault `reference`, and no accepted protocol has one.
 use Rattle.std.specs.Prelude.{ℕ, ◌+◌, ◌==◌, ◌&&◌, Bool, true, false, Option, None, Some, List, [], ◌∷◌, find, map, nat_lt, unwrap_or}
 use Rattle.std.specs.List.{list_any}
 use Rattle.slicc_ast.specs.declared.tree.statement.Block.{Block}
@@ -12,6 +15,8 @@ use Rattle.ruby_value.specs.declared.value.Value.{Value}
 use Rattle.ruby_value.specs.declared.value.Value.TheVariants as value
 use Rattle.ruby_value.specs.Prelude.{line_of}
 use Rattle.ruby_symbols.specs.declared.machine.MachineSymbols.{MachineSymbols}
+use Rattle.ruby_symbols.specs.declared.machine.Next.{Next}
+use Rattle.ruby_symbols.specs.declared.machine.Next.TheVariants.{To, Asked}
 use Rattle.ruby_symbols.specs.declared.machine.TableSymbol.{TableSymbol}
 use Rattle.ruby_symbols.specs.declared.machine.TransitionSymbol.{TransitionSymbol}
 use Rattle.ruby_symbols.specs.declared.states.StateArgument.{StateArgument}
@@ -19,7 +24,7 @@ use Rattle.ruby_symbols.specs.declared.states.StateArgument.TheVariants.{Tbe, En
 use Rattle.ruby_symbols.specs.Prelude.{get_state_arguments, set_permission_arguments, set_state_arguments}
 use Rattle.acts.specs.declared.body_fault.BodyFault.TheVariants as own
 use Rattle.acts.specs.Act as act
-use Rattle.acts.specs.Prelude.{Acting, ends, ◌>>=◌, ◌>>◌, act as done, either, found}
+use Rattle.acts.specs.Prelude.{Acting, ends, stops as stops_body, ◌>>=◌, ◌>>◌, act as done, either, found}
 use Rattle.body_meaning.specs.declared.frame.About.{About}
 use Rattle.body_meaning.specs.declared.frame.Frame.{Frame}
 use Rattle.body_meaning.specs.Reading.{Reading}
@@ -50,7 +55,7 @@ abbrev pub about : Trigger → About
 about t = record { address = t.address; entry = t.entry; tbe = t.tbe }
 
 abbrev pub state_argument : MachineSymbols → About → ℕ → StateArgument → Value
-state_argument m a state Tbe = value.Tbe a.tbe
+state_argument m a state Tbe = value.Entry a.tbe
 state_argument m a state Entry = value.Entry a.entry
 state_argument m a state Address = value.Addr a.address
 state_argument m a state State = value.Enum m.states state
@@ -58,13 +63,28 @@ state_argument m a state State = value.Enum m.states state
 abbrev pub arguments_for : MachineSymbols → About → ℕ → List StateArgument → List Value
 arguments_for m a state arguments = map (state_argument m a state) arguments
 
+-- what a function of the machine that gives a state answers to these arguments
+abbrev pub state_answered : Reading → ℕ → List Value → Acting ℕ
+state_answered s function arguments =
+    calls_of s function arguments >>= (λ t. ends (as_member s s.machine.states (value_in t)))
+
 abbrev pub state_by : Reading → About → Option ℕ → Acting ℕ
 state_by s a None = done (act.State (line_of a.address))
-state_by s a (Some function) =
-    calls_of s function (arguments_for s.machine a 0 (get_state_arguments s.machine)) >>= (λ t. ends (as_member s s.machine.states (value_in t)))
+state_by s a (Some function) = state_answered s function (arguments_for s.machine a 0 (get_state_arguments s.machine))
 
 abbrev pub read_state : Reading → About → Acting ℕ
 read_state s a = state_by s a s.machine.get_state
+
+-- the state that is entered for `*`, of a line by its address
+abbrev pub next_asked : Reading → (address : ℕ) → Option ℕ → Acting ℕ
+next_asked s address None = stops_body own.Reference
+next_asked s address (Some function) = state_answered s function (value.Addr address ∷ [])
+
+-- the state that a transition from a state enters, by what it names
+abbrev pub next_state : Reading → (address state : ℕ) → Option Next → Acting ℕ
+next_state s address state None = ends state
+next_state s address state (Some (To next)) = ends next
+next_state s address state (Some Asked) = next_asked s address s.machine.get_next_state
 
 abbrev pub state_set : Reading → About → ℕ → Option ℕ → Acting (Unit {0})
 state_set s a next None = done (act.SetState (line_of a.address) next)
@@ -121,7 +141,8 @@ abbrev pub row_tried : Reading → Trigger → ℕ → TransitionSymbol → Acti
 row_tried s t state row =
     is_short (need s row.actions) 0 s.machine.tables
     >>= (λ short. either short waiting
-    (either (is_stall_among row.actions s.machine.stall) waiting (fired s t state (unwrap_or row.next state) row)))
+    (either (is_stall_among row.actions s.machine.stall) waiting
+    (next_state s t.address state row.next >>= (λ next. fired s t state next row))))
 
 abbrev pub known : Trigger → Option ℕ → Known
 known t state = record { address = Some t.address; state = state; event = Some t.event }

@@ -36,7 +36,7 @@ fn about_named(m: &MachineSymbols, about: About, name: &[u8]) -> Option<Thing>
     }
     if name == b"tbe".as_slice() {
         if m.tbe.is_some() {
-            return Some(Thing::Value(Value::Tbe(about.tbe)));
+            return Some(Thing::Value(Value::Entry(about.tbe)));
         }
         return None;
     }

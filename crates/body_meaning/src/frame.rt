@@ -1,6 +1,6 @@
 use crate::Thing;
 use acts::Ref;
-use built_in_acts::CallSetting;
+use built_in_acts::KeptMachines;
 use ruby_base::{Seq, Text};
 use ruby_symbols::{MachineSymbols, Symbols};
 use run_journal::{FireNote, StopAt};
@@ -64,8 +64,8 @@ pub struct Scope<'a> {
     pub number: u16,
     /// Its symbols.
     pub machine: &'a MachineSymbols,
-    /// What its built-in calls go by.
-    pub setting: &'a CallSetting,
+    /// Where its controllers keep the numbers of all machines' controllers, by which its built-in calls go.
+    pub kept: KeptMachines,
     /// The machine as it is written, in which the functions that are called have their bodies.
     pub tree: &'a Machine,
 }

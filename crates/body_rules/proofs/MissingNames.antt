@@ -3,7 +3,7 @@ use Rattle.std.proofs.Common.{◌≡◌, ℕ, Bool, true, false, cond, is_none, 
 use Rattle.slicc_ast.specs.declared.tree.name.Name.{Name}
 use Rattle.slicc_ast.specs.declared.tree.machine.Machine.{Machine}
 use Rattle.slicc_ast.specs.declared.tree.machine.Transition.{Transition}
-use Rattle.slicc_plan.specs.Prelude.{Declaration, is_named, event_members, state_members, actions_of, transitions_of, listed_name, missing_among, missing_in, not_there}
+use Rattle.slicc_plan.specs.Prelude.{Declaration, is_named, event_members, state_members, actions_of, transitions_of, listed_next, missing_among, missing_in, not_there}
 use Rattle.slicc_plan.specs.Machines.{names_in}
 use Rattle.declaration_rules.proofs.Steps.{flat_map_same}
 use Rattle.machine_table.specs.declared.numbers.PartNumbers.{PartNumbers}
@@ -23,7 +23,7 @@ missing_same found ds h (n ∷ ns) =
 
 pub transition_same : (own : PartNumbers) (m : Machine) → AreNumbersOf (state_members m) own.states → AreNumbersOf (event_members m) own.events → AreNumbersOf (actions_of m) own.actions → (t : Transition) → missing_with own t ≡ missing_in m t
 transition_same own m states events actions t = λ i.
-    missing_same (found_by own.states) (state_members m) states (names_in t.states ++ listed_name t.next) i
+    missing_same (found_by own.states) (state_members m) states (names_in t.states ++ listed_next t.next) i
     ++ missing_same (found_by own.events) (event_members m) events (names_in t.events) i
     ++ missing_same (found_by own.actions) (actions_of m) actions t.actions i
 

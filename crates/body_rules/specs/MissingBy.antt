@@ -4,7 +4,7 @@ use Rattle.slicc_ast.specs.declared.tree.name.Name.{Name}
 use Rattle.slicc_ast.specs.declared.tree.machine.Transition.{Transition}
 use Rattle.slicc_plan.specs.declared.broken.Broken.{Broken}
 use Rattle.slicc_plan.specs.Machines.{names_in}
-use Rattle.slicc_plan.specs.Prelude.{listed_name, not_there}
+use Rattle.slicc_plan.specs.Prelude.{listed_next, not_there}
 use Rattle.machine_table.specs.declared.numbers.PartNumbers.{PartNumbers}
 use Rattle.machine_table.specs.Prelude.{Finding, found_by}
 
@@ -13,6 +13,6 @@ missing_by found n = cond (is_none (found n.text)) (not_there n ∷ []) []
 
 abbrev pub missing_with : PartNumbers → Transition → List Broken
 missing_with own t =
-    flat_map (missing_by (found_by own.states)) (names_in t.states ++ listed_name t.next)
+    flat_map (missing_by (found_by own.states)) (names_in t.states ++ listed_next t.next)
     ++ flat_map (missing_by (found_by own.events)) (names_in t.events)
     ++ flat_map (missing_by (found_by own.actions)) t.actions

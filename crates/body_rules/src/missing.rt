@@ -1,7 +1,7 @@
 //! Names of states, events and actions in transitions, each of which the machine has to have; and the permissions of states.
 ghost use Rattle.std.specs.Prelude.{◌≡◌, [], ◌∷◌, flat_map, IfOk, Some};
 ghost use Rattle.slicc_plan.specs.Machines.{names_in};
-ghost use Rattle.slicc_plan.specs.Prelude.{HasFewParts, transition_in, transitions_of, first_after, listed_name, missing_in, not_there, declared_in, wrong_permission};
+ghost use Rattle.slicc_plan.specs.Prelude.{HasFewParts, transition_in, transitions_of, first_after, listed_next, missing_in, not_there, declared_in, wrong_permission};
 ghost use Rattle.machine_table.specs.Prelude.{found_by};
 ghost use Rattle.body_rules.specs.Prelude.{missing_by, missing_with, wrong_states, wrong_state_of};
 ghost use Rattle.std.specs.Option.{option_map};
@@ -11,7 +11,7 @@ use declaration_rules::{earlier_at, has_member, is_built_in};
 use declared_types::{Declared, KnownType, Scopes};
 use machine_table::{Numbers, PartNumbers, part_numbers};
 use ruby_base::NoMemory;
-use slicc_ast::tree::{Decl, Machine, Name, Names, State, Transition};
+use slicc_ast::tree::{Decl, Machine, Name, Names, NextState, State, Transition};
 use slicc_plan::{Broken, BuiltInType, Rule};
 use std::alloc::Global;
 
@@ -50,12 +50,12 @@ fn judge_names(first: Option<Broken>, numbers: &Numbers, names: &Names) -> Optio
     }
 }
 
-fn judge_next(first: Option<Broken>, numbers: &Numbers, next: &Option<Name>) -> Option<Broken>
-    ensures { result ≡ first_after first (flat_map (missing_by (found_by numbers.now)) (listed_name next.now)) }
+fn judge_next(first: Option<Broken>, numbers: &Numbers, next: &Option<NextState>) -> Option<Broken>
+    ensures { result ≡ first_after first (flat_map (missing_by (found_by numbers.now)) (listed_next next.now)) }
 {
     match next {
-        None => first,
-        Some(name) => judge_name(first, numbers, name),
+        Some(NextState::Named(name)) => judge_name(first, numbers, name),
+        Some(NextState::Asked(_)) | None => first,
     }
 }
 

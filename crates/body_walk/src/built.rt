@@ -27,7 +27,7 @@ fn thing_built<T: Local>(
     ensures { DoesAs itself (thing_built (reading s.entry) number on arguments.now) result
         (T.view local.old) (T.view local.new) }
 {
-    let v = built_in(alloc, local, s.setting, number, on, arguments)?;
+    let v = built_in(alloc, local, s.kept, number, on, arguments)?;
     Ok(thing_of(v))
 }
 

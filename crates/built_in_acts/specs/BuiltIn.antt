@@ -1,8 +1,8 @@
 -- What each built-in call does and answers, as acts, by its number, the table or buffer that it is called on, and its arguments; a
 -- receiver that is a value is the first of these. A call that changes a set of controllers or a block answers the changed one. The
--- calls are gem5's SLICC's; `recycle` without a latency has 10, which is this project's own. Of the machine the setting says what
--- the calls need to know: which tables give TBE references, and where the machines' numbers are kept.
-use Rattle.std.specs.Prelude.{ℕ, pos, ◌==◌, true, false, List, [], Option, None, Some, is_some, length, slice_get, unwrap_or, if◌then◌else◌}
+-- calls are gem5's SLICC's; `recycle` without a latency has 10, which is this project's own. Of the machine they need to know where
+-- its controllers keep the machines' numbers. A reference to a line is of one sort as a value, whatever its table.
+use Rattle.std.specs.Prelude.{ℕ, pos, ◌==◌, true, List, [], Option, None, Some, is_some, length}
 use Rattle.std.specs.List.{fold, list_any}
 use Rattle.std.specs.Option.{option_map}
 use Rattle.ruby_value.specs.declared.value.Ref.{Ref}
@@ -28,7 +28,6 @@ use Rattle.built_in_acts.specs.declared.call.ValueCall.{ValueCall}
 use Rattle.built_in_acts.specs.declared.call.ValueCall.TheVariants as plain
 use Rattle.built_in_acts.specs.declared.machines.KeptMachines.{KeptMachines}
 use Rattle.built_in_acts.specs.declared.machines.Placed.{Placed}
-use Rattle.built_in_acts.specs.declared.call.CallSetting.{CallSetting}
 use Rattle.built_in_acts.specs.Calls.{call_at}
 use Rattle.built_in_acts.specs.Machines.{home_in, place_of, range_at, with_range}
 use Rattle.built_in_acts.specs.Values.{address_of_line, argument, block, controller, controllers, line_named, member, number, reference, zeros}
@@ -39,10 +38,6 @@ silent p = p >>= (λ _. ends None)
 
 unfoldable pub told : {A : Type 0} → (A → Value) → Acting A → Acting (Option Value)
 told made p = p >>= (λ x. ends (Some (made x)))
-
--- a reference to a line of this table, as a value
-abbrev pub referred : CallSetting → ℕ → Option Ref → Value
-referred setting on r = if unwrap_or (slice_get setting.tbe_references on) false then value.Tbe r else value.Entry r
 
 -- the line that an address or a reference names; a reference to nothing names none
 abbrev pub line_used : Value → Option ℕ
@@ -80,15 +75,15 @@ on_messages message.Stall on arguments = silent (done (act.Stall on (line_named 
 on_messages message.Wake on arguments = silent (done (act.Wake (line_named (argument arguments 0))))
 on_messages message.WakeAll on arguments = silent (done act.WakeAll)
 
-abbrev pub on_table : CallSetting → TableCall → ℕ → List Value → Acting (Option Value)
-on_table setting table.Lookup on arguments = told (referred setting on) (done (act.Lookup on (line_named (argument arguments 0))))
-on_table setting table.IsPresent on arguments = told (λ r. value.Bool (is_some r)) (done (act.Lookup on (line_named (argument arguments 0))))
-on_table setting table.HasPlace on arguments = told value.Bool (done (act.Avail on (line_named (argument arguments 0))))
-on_table setting table.Replaced on arguments = told (λ line. value.Addr (address_of_line line)) (done (act.Probe on (line_named (argument arguments 0))))
-on_table setting table.Allocate on arguments = told (λ r. referred setting on (Some r)) (done (act.Allocate on (line_named (argument arguments 0))))
-on_table setting table.AllocateTbe on arguments = silent (done (act.Allocate on (line_named (argument arguments 0))))
-on_table setting table.Deallocate on arguments = silent (done (act.Deallocate on (line_named (argument arguments 0))))
-on_table setting table.Use on arguments = silent (used on (argument arguments 0))
+abbrev pub on_table : TableCall → ℕ → List Value → Acting (Option Value)
+on_table table.Lookup on arguments = told value.Entry (done (act.Lookup on (line_named (argument arguments 0))))
+on_table table.IsPresent on arguments = told (λ r. value.Bool (is_some r)) (done (act.Lookup on (line_named (argument arguments 0))))
+on_table table.HasPlace on arguments = told value.Bool (done (act.Avail on (line_named (argument arguments 0))))
+on_table table.Replaced on arguments = told (λ line. value.Addr (address_of_line line)) (done (act.Probe on (line_named (argument arguments 0))))
+on_table table.Allocate on arguments = told (λ r. value.Entry (Some r)) (done (act.Allocate on (line_named (argument arguments 0))))
+on_table table.AllocateTbe on arguments = silent (done (act.Allocate on (line_named (argument arguments 0))))
+on_table table.Deallocate on arguments = silent (done (act.Deallocate on (line_named (argument arguments 0))))
+on_table table.Use on arguments = silent (used on (argument arguments 0))
 
 abbrev pub on_controller : ControllerCall → List Value → Acting (Option Value)
 on_controller own_call.ReadCallback arguments = silent (done (act.ReadBack (line_named (argument arguments 0)) (block (argument arguments 1))))
@@ -103,15 +98,15 @@ on_machines kept machines.Home arguments = told (λ r. value.Machine (home_in (l
 on_machines kept machines.Index arguments = told (λ (p : Placed). value.Int (pos p.index)) (place_of kept (controller (argument arguments 0)))
 on_machines kept machines.MachineOf arguments = told (λ (p : Placed). value.Enum 0 p.machine) (place_of kept (controller (argument arguments 0)))
 
-abbrev pub called : CallSetting → Call → ℕ → List Value → Acting (Option Value)
-called setting (call.Message c) on arguments = on_messages c on arguments
-called setting (call.Table c) on arguments = on_table setting c on arguments
-called setting (call.Controller c) on arguments = on_controller c arguments
-called setting (call.Machines c) on arguments = on_machines setting.kept c arguments
-called setting (call.Set c) on arguments = ends (Some (of_set c (controllers (argument arguments 0)) (argument arguments 1)))
-called setting (call.Value c) on arguments = ends (of_values c arguments)
-called setting call.NotServed on arguments = stops own.Reference
+abbrev pub called : KeptMachines → Call → ℕ → List Value → Acting (Option Value)
+called kept (call.Message c) on arguments = on_messages c on arguments
+called kept (call.Table c) on arguments = on_table c on arguments
+called kept (call.Controller c) on arguments = on_controller c arguments
+called kept (call.Machines c) on arguments = on_machines kept c arguments
+called kept (call.Set c) on arguments = ends (Some (of_set c (controllers (argument arguments 0)) (argument arguments 1)))
+called kept (call.Value c) on arguments = ends (of_values c arguments)
+called kept call.NotServed on arguments = stops own.Reference
 
 -- by the number of the call
-unfoldable pub built_in : CallSetting → ℕ → ℕ → List Value → Acting (Option Value)
-built_in setting n on arguments = called setting (call_at n) on arguments
+unfoldable pub built_in : KeptMachines → ℕ → ℕ → List Value → Acting (Option Value)
+built_in kept n on arguments = called kept (call_at n) on arguments

@@ -1,7 +1,8 @@
 -- Sums, differences, products and negations of signed numbers of 64 bits, with the fault where one is outside them, comparisons, and
--- the fields of the lines that references name. Nothing wraps, and neither sets of controllers nor references are compared: both
--- are this project's own rules.
-use Rattle.std.specs.Prelude.{ℕ, ℤ, pos, negsuc, ◌+ℤ◌, ◌-ℤ◌, ◌*ℤ◌, ◌^◌, ◌==◌, ◌&&◌, Bool, true, false, not, Result, Ok, Err, nat_lt, int_lt, int_le, bytes_eq, if◌then◌else◌}
+-- the fields of the lines that references name. Nothing wraps, sets of controllers aren't compared, and two references are equal where
+-- both are to nothing, so that a comparison with a reference to nothing says whether the other one is to a line: these are this
+-- project's own rules.
+use Rattle.std.specs.Prelude.{ℕ, ℤ, pos, negsuc, ◌+ℤ◌, ◌-ℤ◌, ◌*ℤ◌, ◌^◌, ◌==◌, ◌&&◌, Bool, true, false, not, is_none, Result, Ok, Err, nat_lt, int_lt, int_le, bytes_eq, if◌then◌else◌}
 use Rattle.std.specs.Ordering.{int_eq}
 use Rattle.ruby_value.specs.declared.value.Value.{Value}
 use Rattle.ruby_value.specs.declared.value.Value.TheVariants as value
@@ -33,7 +34,13 @@ is_less a b = int_lt (number a) (number b)
 abbrev pub is_at_most : Value → Value → Bool
 is_at_most a b = int_le (number a) (number b)
 
--- whether two values are equal; two of different sorts, or of a sort that isn't compared, aren't
+-- whether a value is a reference to nothing
+abbrev pub is_no_line : Value → Bool
+is_no_line (value.Entry r) = is_none r
+is_no_line (value.Tbe r) = is_none r
+is_no_line _ = false
+
+-- whether two values are equal; two of different sorts, or of a sort that isn't compared, aren't. References are of one sort.
 abbrev pub are_equal : Value → Value → Bool
 are_equal (value.Bool true) (value.Bool b) = b
 are_equal (value.Bool false) (value.Bool b) = not b
@@ -42,6 +49,8 @@ are_equal (value.Enum d m) (value.Enum e n) = d == e && m == n
 are_equal (value.Addr a) (value.Addr b) = a == b
 are_equal (value.Machine a) (value.Machine b) = a == b
 are_equal (value.Block a) (value.Block b) = bytes_eq a.bytes b.bytes
+are_equal (value.Entry r) w = is_none r && is_no_line w
+are_equal (value.Tbe r) w = is_none r && is_no_line w
 are_equal _ _ = false
 
 -- a field through a reference: the fault is the same whether it is to nothing or to a line that isn't there

@@ -1,9 +1,6 @@
 ghost use Rattle.std.specs.Prelude.{◌≡◌};
 ghost use Rattle.built_in_acts.specs.Calls.{call_at, calls};
 
-use crate::KeptMachines;
-use ruby_value::Seq;
-
 /// A call on messages, which a port names or that wait.
 #[derive(Clone, Copy)]
 pub enum MessageCall {
@@ -201,14 +198,4 @@ pub fn call_at(n: u16) -> Call
         Some(call) => *call,
         None => Call::NotServed,
     }
-}
-
-/// What the built-in calls need to know of a machine beside its setup. It is the same for all its controllers.
-#[derive(Drop)]
-pub struct CallSetting {
-    /// Of each table, by its number, whether references to its lines are TBE references: those of a TBE table are, and those of
-    /// another one whose lines have the structure of the machine's TBE type.
-    pub tbe_references: Seq<bool>,
-    /// Where the controllers keep the numbers of all machines' controllers.
-    pub kept: KeptMachines,
 }

@@ -2,19 +2,17 @@
 ghost use Rattle.std.specs.Prelude.{◌≡◌, Some, Ok, pos};
 ghost use Rattle.ruby_value.specs.declared.value.Value.TheVariants as value;
 ghost use Rattle.acts.specs.Prelude.{Now, act, DoesAs, itself};
-ghost use Rattle.built_in_acts.specs.Prelude.{built_in, line_used, of_values, on_controller, on_machines, on_messages, on_table, referred, told, used, argument};
+ghost use Rattle.built_in_acts.specs.Prelude.{built_in, line_used, of_values, on_controller, on_machines, on_messages, on_table, told, used, argument};
 
-use crate::call::{
-    Call, CallSetting, ControllerCall, MachineCall, MessageCall, TableCall, ValueCall, call_at,
-};
+use crate::call::{Call, ControllerCall, MachineCall, MessageCall, TableCall, ValueCall, call_at};
 use crate::machines::{KeptMachines, add_range, home_in, place_of, range_at};
 use crate::sets::{controllers_at, of_set};
 use crate::values::{
     address_of_line, block_at, controller_at, line_at, member_at, number_at, reference,
 };
 use acts::{
-    Block, BodyFault, Local, Ref, Trouble, Value, allocate, avail, deallocate, lookup, me, now,
-    pop, probe, read_back, ready, recycle, set_state, stall, touch, wake, wake_all, write_back,
+    Block, BodyFault, Local, Trouble, Value, allocate, avail, deallocate, lookup, me, now, pop,
+    probe, read_back, ready, recycle, set_state, stall, touch, wake, wake_all, write_back,
 };
 use std::alloc::Global;
 
@@ -65,36 +63,25 @@ fn use_line<T: Local>(local: &mut T, table: u16, arguments: &[Value]) -> Result<
     touch(local, table, line)
 }
 
-// A reference to a line of a table, as a value.
-fn referred(setting: &CallSetting, table: u16, r: Option<Ref>) -> Value
-    ensures { result ≡ referred setting.now table r }
-{
-    match setting.tbe_references.get(usize::from(table)) {
-        Some(true) => Value::Tbe(r),
-        _ => Value::Entry(r),
-    }
-}
-
 /// Does a call on a table, with these arguments, and answers its value, if it has one.
 pub fn on_table<T: Local>(
     local: &mut T,
-    setting: &CallSetting,
     call: TableCall,
     on: u16,
     arguments: &[Value],
 ) -> Result<Option<Value>, Trouble>
-    ensures { DoesAs itself (on_table setting.now call on arguments.now) result (T.view local.old)
+    ensures { DoesAs itself (on_table call on arguments.now) result (T.view local.old)
         (T.view local.new) }
 {
     let line = line_at(arguments, 0);
     match call {
-        TableCall::Lookup => Ok(Some(referred(setting, on, lookup(local, on, line)?))),
+        TableCall::Lookup => Ok(Some(Value::Entry(lookup(local, on, line)?))),
         TableCall::IsPresent => Ok(Some(Value::Bool(lookup(local, on, line)?.is_some()))),
         TableCall::HasPlace => Ok(Some(Value::Bool(avail(local, on, line)?))),
         TableCall::Replaced => Ok(Some(Value::Addr(address_of_line(probe(local, on, line)?)))),
         TableCall::Allocate => {
             let r = allocate(local, on, line)?;
-            Ok(Some(referred(setting, on, Some(r))))
+            Ok(Some(Value::Entry(Some(r))))
         }
         TableCall::AllocateTbe => {
             allocate(local, on, line)?;
@@ -200,19 +187,19 @@ pub fn on_machines<T: Local>(
 pub fn built_in<T: Local>(
     alloc: Global,
     local: &mut T,
-    setting: &CallSetting,
+    kept: KeptMachines,
     n: u16,
     on: u16,
     arguments: &[Value],
 ) -> Result<Option<Value>, Trouble>
-    ensures { DoesAs itself (built_in setting.now n on arguments.now) result (T.view local.old)
+    ensures { DoesAs itself (built_in kept n on arguments.now) result (T.view local.old)
         (T.view local.new) }
 {
     match call_at(n) {
         Call::Message(call) => on_messages(local, call, on, arguments),
-        Call::Table(call) => on_table(local, setting, call, on, arguments),
+        Call::Table(call) => on_table(local, call, on, arguments),
         Call::Controller(call) => on_controller(local, call, arguments),
-        Call::Machines(call) => on_machines(alloc, local, setting.kept, call, arguments),
+        Call::Machines(call) => on_machines(alloc, local, kept, call, arguments),
         Call::Set(call) => Ok(Some(of_set(alloc, call, arguments)?)),
         Call::Value(call) => Ok(of_values(call, arguments)),
         Call::NotServed => Err(Trouble::from(BodyFault::Reference)),

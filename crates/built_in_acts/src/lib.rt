@@ -10,8 +10,7 @@ mod sets;
 mod values;
 
 pub use call::{
-    Call, CallSetting, ControllerCall, MachineCall, MessageCall, SetCall, TableCall, ValueCall,
-    call_at,
+    Call, ControllerCall, MachineCall, MessageCall, SetCall, TableCall, ValueCall, call_at,
 };
 pub use doing::{built_in, of_values, on_controller, on_machines, on_messages, on_table};
 pub use machines::{KeptMachines, Placed, Range, add_range, home_in, place_of, range_at};

@@ -1,7 +1,7 @@
 // Sums with their fault, comparisons, and fields through references.
 ghost use Rattle.std.specs.Prelude.{◌≡◌};
 ghost use Rattle.acts.specs.Prelude.{DoesAs, itself};
-ghost use Rattle.built_in_acts.specs.Prelude.{are_equal, difference, field_of, is_at_most, is_less, negation, product, sum, with_field};
+ghost use Rattle.built_in_acts.specs.Prelude.{are_equal, difference, field_of, is_at_most, is_less, is_no_line, negation, product, sum, with_field};
 
 use crate::values::{number, reference};
 use acts::{BodyFault, Local, Trouble, Value, get, set};
@@ -60,7 +60,16 @@ pub fn is_at_most(a: &Value, b: &Value) -> bool
     number(a) <= number(b)
 }
 
-/// Whether two values are equal, of those sorts that are compared.
+fn is_no_line(v: &Value) -> bool
+    ensures { result ≡ is_no_line v.now }
+{
+    match v {
+        Value::Entry(r) | Value::Tbe(r) => r.is_none(),
+        _ => false,
+    }
+}
+
+/// Whether two values are equal, of those sorts that are compared. References are where both are to nothing.
 pub fn are_equal(a: &Value, b: &Value) -> bool
     ensures { result ≡ are_equal a.now b.now }
 {
@@ -71,6 +80,7 @@ pub fn are_equal(a: &Value, b: &Value) -> bool
         (Value::Addr(a), Value::Addr(b)) => *a == *b,
         (Value::Machine(a), Value::Machine(b)) => *a == *b,
         (Value::Block(a), Value::Block(b)) => a.bytes == b.bytes,
+        (Value::Entry(_) | Value::Tbe(_), _) => is_no_line(a) && is_no_line(b),
         _ => false,
     }
 }

@@ -5,11 +5,11 @@ ghost use Rattle.ruby_value.specs.Prelude.{IsRequest};
 
 use crate::messages::{message, number_of, one_field};
 use cache_array::{CacheArray, CacheFault, DirMemory};
+use example_texts::RowText;
 use msg_buffer::{Buffer, Fields, Message, MsgNo};
 use pcg_words::Words;
-use ruby_outside::RowText;
 use ruby_value::{NetDest, Value};
-use run_journal::{End, Entry, NoMemory, Seq, part};
+use run_journal::{End, Journal, JournalWriter, NoMemory, part};
 use sequencer::{Ask, Asked, BackFault, Block, IssueFault, Sequencer};
 use stall_map::StallMap;
 use std::alloc::Global;
@@ -155,20 +155,20 @@ fn add_sequencer(rows: &mut RowText, mut sequencer: Sequencer) {
 }
 
 // Adds how many entries of a journal are a controller's.
-fn add_part(rows: &mut RowText, journal: &Seq<Entry>, controller: u32) {
+fn add_part(rows: &mut RowText, journal: &Journal, controller: u32) {
     match part(rows.alloc(), journal, controller) {
         Ok(entries) => rows.show(" ", &entries.len()),
         Err(NoMemory) => rows.lose(),
     }
 }
 
-fn add_journal(rows: &mut RowText, mut journal: Seq<Entry>) {
-    let entry = Entry::Ended {
-        cycle: 1,
-        controller: 1,
-        end: End::Idle,
-    };
-    rows.show("\njournal: ", &is_done(journal.push(entry)));
+fn add_journal(rows: &mut RowText, mut writer: JournalWriter) {
+    let room = writer.reserve(1, 0, 0);
+    rows.show("\njournal: ", &room.is_ok());
+    if room.is_ok() {
+        writer.push_ended(1, 1, End::Idle);
+    }
+    let journal = writer.into_journal();
     add_part(rows, &journal, 0);
     add_part(rows, &journal, 1);
 }
@@ -193,6 +193,6 @@ pub fn add_controllers(rows: &mut RowText) {
     add_buffer(rows, Buffer::new(alloc), number);
     add_stalls(rows, StallMap::new(alloc), number);
     add_sequencer(rows, Sequencer::new(alloc));
-    add_journal(rows, Seq::new(alloc));
+    add_journal(rows, JournalWriter::new(alloc));
     rows.add("\n");
 }

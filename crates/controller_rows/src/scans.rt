@@ -8,7 +8,7 @@ ghost use Rattle.controller_rows.specs.Going.{GoesOn, IsEndOf};
 use body_meaning::RoundEnd;
 use ctl_face::{NoMemory, Routes};
 use ctl_store::{Draft, Outcome, Store};
-use protocol_meaning::{Protocol, fired_rounds_stay};
+use protocol_meaning::fired_rounds_stay;
 use run_journal::StopAt;
 use slicc_interpreter::Interpreted;
 use std::alloc::Global;
@@ -37,7 +37,7 @@ fn round(
     ensures { IfOk result (λ end. StaysIfFired end (view_of draft.new) (view_of draft.old)) }
 {
     fired_rounds_stay();
-    protocol.round(alloc, machine, draft, fired, limit)
+    protocol.walk(alloc, machine, draft, fired, limit)
 }
 
 /// Does a scan of a store's controller, of this machine, that has fired so many transitions in the cycle and may fire `limit`. The seed

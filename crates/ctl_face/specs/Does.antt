@@ -26,3 +26,8 @@ abbrev pub Reads : {A : Type 0} → Result A Fault → Result A Trouble → Type
 Reads want (Ok a) = want ≡ Ok a
 Reads want (Err (trouble.Fault fault)) = want ≡ Err fault
 Reads want (Err trouble.NoMemory) = Unit {0}
+
+-- what one answers that takes no memory
+abbrev pub answered : {A : Type 0} → Result A Fault → Result A Trouble
+answered (Ok a) = Ok a
+answered (Err fault) = Err (trouble.Fault fault)

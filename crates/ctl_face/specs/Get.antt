@@ -14,5 +14,9 @@ use Rattle.ctl_face.specs.Tables.{table_at}
 abbrev pub fields_behind : LocalView → Ref → Option (List Value)
 fields_behind v r = option_and_then (λ t. fields_in t r.line) (table_at v r.table)
 
+-- the value of a field there
+abbrev pub field_behind : LocalView → Ref → ℕ → Option Value
+field_behind v r field = option_and_then (λ fields. slice_get fields field) (fields_behind v r)
+
 abbrev pub get : LocalView → Ref → ℕ → Result Value Fault
-get v r field = ok_or (option_and_then (λ fields. slice_get fields field) (fields_behind v r)) Reference
+get v r field = ok_or (field_behind v r field) Reference

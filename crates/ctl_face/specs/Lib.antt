@@ -28,6 +28,7 @@ pub mod Mailing
 pub mod MarksAhead
 pub mod OfMachine
 pub mod Opening
+pub mod Places
 pub mod Pop
 pub mod Ready
 pub mod Recycle

@@ -9,14 +9,14 @@ pub use Rattle.ctl_face.specs.Between.{DriverAct, IsDriverAct, Issues, Takes, af
 pub use Rattle.ctl_face.specs.Callback.{after_callback, block_after_write, called_back, read_back, write_back}
 pub use Rattle.ctl_face.specs.Ctl.{Ctl, InboxMessage, Mail}
 pub use Rattle.ctl_face.specs.Deallocate.{deallocate, without_line_in}
-pub use Rattle.ctl_face.specs.Does.{Comes, Does, DoesWith, Reads}
+pub use Rattle.ctl_face.specs.Does.{Comes, Does, DoesWith, Reads, answered}
 pub use Rattle.ctl_face.specs.Enqueue.{after_sending, enqueue, for_others}
 pub use Rattle.ctl_face.specs.FieldsIn.{fields_in, with_fields_in}
 pub use Rattle.ctl_face.specs.Fits.{Fits, FitsLine, FitsLines, FitsMail, FitsMessage, FitsSequencer, FitsTable, FitsTableAt, IsLawful, IsOfSize, NumbersAscend, ScanFits, last_cycle}
 pub use Rattle.ctl_face.specs.FitsReceiver.{FitsReceiver, SendsFit}
 pub use Rattle.ctl_face.specs.Free.{free, free_in}
 pub use Rattle.ctl_face.specs.Front.{IsFront, front, is_ready}
-pub use Rattle.ctl_face.specs.Get.{fields_behind, get}
+pub use Rattle.ctl_face.specs.Get.{field_behind, fields_behind, get}
 pub use Rattle.ctl_face.specs.Inbox.{changed_message, without_message}
 pub use Rattle.ctl_face.specs.InRun.{IsController, IsInRun}
 pub use Rattle.ctl_face.specs.IsMachine.{AgreeOnType, ArePlain, HasPlaces, IsBufferSetup, IsMachine, IsTableSetup, ParametersAreLast, SameReceivers, ShareTypes, is_parameters, network_count, receivers_field}
@@ -29,6 +29,7 @@ pub use Rattle.ctl_face.specs.Mailing.{incoming_message, mail_with_arrival, mail
 pub use Rattle.ctl_face.specs.MarksAhead.{MarksAhead}
 pub use Rattle.ctl_face.specs.OfMachine.{TakesFields, buffer_place, field_kinds, initial_fields, message_kinds, table_size}
 pub use Rattle.ctl_face.specs.Opening.{no_mail, no_requests, opening_ctl, opening_table}
+pub use Rattle.ctl_face.specs.Places.{IsPlace, is_at, message_at, message_in}
 pub use Rattle.ctl_face.specs.Pop.{mail_without, pop, popped_mail}
 pub use Rattle.ctl_face.specs.Ready.{front_now, ready, required_front}
 pub use Rattle.ctl_face.specs.Recycle.{mail_with_recycled, message_arriving_again, recycle, recycled_mail}

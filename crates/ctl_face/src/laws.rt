@@ -7,8 +7,9 @@ ghost use Rattle.ruby_value.specs.declared.setup.MachineSetup.{MachineSetup};
 ghost use Rattle.ruby_value.specs.declared.value.Block.{Block};
 ghost use Rattle.ruby_value.specs.declared.value.Ref.{Ref};
 ghost use Rattle.ruby_value.specs.declared.value.Value.{Value};
+ghost use Rattle.ctl_face.specs.declared.message_at.MessageAt.{MessageAt};
 ghost use Rattle.ctl_face.specs.declared.routes.Routes.{Routes};
-ghost use Rattle.ctl_face.specs.Prelude.{again, allocate, probe, DriverAct, IsDriverAct, after_driver_acts, at_cycle, with_one_fired, with_stop, with_arrival, with_request, with_wake_up, without_first_answer, read_back, write_back, Ctl, Mail, deallocate, enqueue, Fits, IsLawful, last_cycle, FitsReceiver, SendsFit, get, IsController, IsInRun, IsMachine, AlwaysKeeps, Keeps, KeepsFits, KeepsWhere, Actor, LocalView, TakesFields, opening_ctl, pop, required_front, recycle, HasRoutes, NobodyElseReceives, RoutesFit, scan_view, Sending, copy_limit, send, HasStates, TakesField, TakesMessage, set, stall, set_state, touch, wake, wake_all};
+ghost use Rattle.ctl_face.specs.Prelude.{again, allocate, probe, DriverAct, IsDriverAct, after_driver_acts, at_cycle, with_one_fired, with_stop, with_arrival, with_request, with_wake_up, without_first_answer, read_back, write_back, Ctl, Mail, deallocate, enqueue, Fits, IsLawful, last_cycle, FitsReceiver, SendsFit, get, message_at, SameScan, IsController, IsInRun, IsMachine, AlwaysKeeps, Keeps, KeepsFits, KeepsWhere, Actor, LocalView, TakesFields, opening_ctl, pop, required_front, recycle, HasRoutes, NobodyElseReceives, RoutesFit, scan_view, Sending, copy_limit, send, HasStates, TakesField, TakesMessage, set, stall, set_state, touch, wake, wake_all};
 ghost use Rattle.ruby_value.specs.Prelude.{IsLine, IsRequest};
 
 /// A controller as a run begins fits its machine, in that cycle and in each later one.
@@ -113,4 +114,9 @@ pub fn reads_have_their_kinds()
     ensures front_buffer { (v : LocalView) (buffer : ℕ) (m : Message)
         → required_front v buffer ≡ Ok m
         → m.buffer ≡ buffer }
+{}
+
+/// A place of a message stays good through a whole scan, and has the same message.
+pub fn places_stay_good()
+    ensures { (v w : LocalView) (at : MessageAt) → SameScan v w → message_at w at ≡ message_at v at }
 {}

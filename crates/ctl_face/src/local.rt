@@ -1,18 +1,19 @@
-ghost use Rattle.std.specs.Prelude.{◌≡◌, Ok};
+ghost use Rattle.std.specs.Prelude.{◌≡◌, Ok, Some, IfSome, is_some};
 ghost use Rattle.std.specs.Option.{option_copied};
 ghost use Rattle.ctl_face.specs.Again.{again};
 ghost use Rattle.ctl_face.specs.Allocate.{allocate};
 ghost use Rattle.ctl_face.specs.Avail.{avail, probe};
 ghost use Rattle.ctl_face.specs.Callback.{read_back, write_back, block_after_write};
 ghost use Rattle.ctl_face.specs.Deallocate.{deallocate};
-ghost use Rattle.ctl_face.specs.Does.{Does, DoesWith, Reads};
+ghost use Rattle.ctl_face.specs.Does.{Does, DoesWith, Reads, answered};
 ghost use Rattle.ctl_face.specs.Enqueue.{enqueue};
 ghost use Rattle.ctl_face.specs.Fits.{IsLawful};
 ghost use Rattle.ruby_value.specs.Prelude.{IsLine};
 ghost use Rattle.ctl_face.specs.Free.{free};
-ghost use Rattle.ctl_face.specs.Get.{get};
+ghost use Rattle.ctl_face.specs.Get.{field_behind, get};
 ghost use Rattle.ctl_face.specs.LocalView.{LocalView};
 ghost use Rattle.ctl_face.specs.Lookup.{lookup, reference_to};
+ghost use Rattle.ctl_face.specs.Places.{IsPlace, message_at};
 ghost use Rattle.ctl_face.specs.Pop.{pop};
 ghost use Rattle.ctl_face.specs.Ready.{front_now, ready, required_front};
 ghost use Rattle.ctl_face.specs.Recycle.{recycle};
@@ -23,7 +24,7 @@ ghost use Rattle.ctl_face.specs.State.{state, set_state};
 ghost use Rattle.ctl_face.specs.Touch.{touch};
 ghost use Rattle.ctl_face.specs.Wake.{wake, wake_all};
 
-use crate::Trouble;
+use crate::{MessageAt, Trouble};
 use ruby_value::{Block, Fields, MachineSetup, Message, Ref, Value};
 
 /// A controller in whose scan acts are done: the tables, buffers, sends and callbacks that the actions of a protocol
@@ -57,6 +58,12 @@ pub trait Local {
         requires line { IsLine r.now.line }
         ensures { Reads (get (view self.now) r.now field) result };
 
+    /// The same value, lent, or `None` exactly where the line isn't there.
+    fn field(&self, r: &Ref, field: u16) -> Option<&Value>
+        requires served { HasField (view self.now) r.now.table field }
+        requires line { IsLine r.now.line }
+        ensures { option_copied result ≡ field_behind (view self.now) r.now field };
+
     /// Writes a field of the line that a reference names. The fault `Reference` comes exactly where the line isn't there. It
     /// doesn't count as a use of the line.
     fn set(&mut self, r: &Ref, field: u16, v: Value) -> Result<(), Trouble>
@@ -81,7 +88,7 @@ pub trait Local {
     fn probe(&self, table: u16, line: u64) -> Result<u64, Trouble>
         requires served { Serves is_cache (view self.now) table }
         requires line { IsLine line }
-        ensures { Reads (probe (view self.now) table line) result };
+        ensures { result ≡ answered (probe (view self.now) table line) };
 
     /// Puts a line with its default fields into a cache, as the most recently used one of its set, or into a TBE table, and
     /// answers the reference to it. The fault `Present` comes where the line is there, and else `Full` where there is no place
@@ -125,6 +132,19 @@ pub trait Local {
     fn peek(&self, buffer: u16) -> Option<&Message>
         requires served { Receives (view self.now) buffer }
         ensures { option_copied result ≡ front_now (view self.now) buffer };
+
+    /// Where the front of a buffer is, or `None` exactly where there is none. The place stays good until the scan ends, whatever
+    /// becomes of the message.
+    fn front_at(&self, buffer: u16) -> Option<MessageAt>
+        requires served { Receives (view self.now) buffer }
+        ensures there { is_some result ≡ ready (view self.now) buffer }
+        ensures place { IfSome result (IsPlace (view self.now)) }
+        ensures front { IfSome result (λ at. message_at (view self.now) at ≡ front_now (view self.now) buffer) };
+
+    /// The message at a place, lent as the scan began with it. Which places are good, only the view's start says.
+    fn message(&self, at: MessageAt) -> &Message
+        requires place { IsPlace (view self.now) at }
+        ensures { message_at (view self.now) at ≡ Some result.now };
 
     /// Consumes the front of a buffer. The fault `Front` comes exactly where there is none.
     fn pop(&mut self, buffer: u16) -> Result<(), Trouble>

@@ -10,7 +10,9 @@ mod Founds
 mod Fronts
 mod Inboxes
 mod Inserts
+mod Keeps
 mod Latencies
+mod Located
 mod Leasts
 pub mod Locals
 mod Makes

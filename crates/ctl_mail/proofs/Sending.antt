@@ -11,7 +11,7 @@ use Rattle.ruby_value.specs.declared.setup.BufferPlace.{BufferPlace}
 use Rattle.ruby_value.specs.declared.setup.BufferSetup.{BufferSetup}
 use Rattle.ruby_value.specs.declared.setup.MachineSetup.{MachineSetup}
 use Rattle.ruby_value.specs.declared.value.Value.{Value}
-use Rattle.ctl_face.specs.Prelude.{is_latency, Acts, sent_of, InboxMessage, Mail, for_others, with_last, Actor, incoming_message, mail_with_delivery, Sending, has_jitter, no_copies, send, sending_from, sending_on, with_network_copy}
+use Rattle.ctl_face.specs.Prelude.{is_latency, sent_of, InboxMessage, Mail, for_others, with_last, Actor, incoming_message, mail_with_delivery, Sending, has_jitter, no_copies, send, sending_from, sending_on, with_network_copy}
 use Rattle.ruby_value.specs.declared.message.Delivery.{Delivery}
 use Rattle.ctl_face.specs.Inbox.{with_message}
 use Rattle.ctl_face.proofs.Inboxes.{ascend-with}

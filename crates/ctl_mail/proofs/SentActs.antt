@@ -18,7 +18,7 @@ use Rattle.ctl_mail.specs.declared.act.MailAct.{MailAct}
 use Rattle.ctl_mail.specs.declared.act.MailAct.TheVariants.{Arrive, Count, LocalLast, Mark, NetworkLast, Pop, Recycle, Stall, Wake, WakeAll}
 use Rattle.ctl_mail.specs.declared.moves.Move.{Move}
 use Rattle.ctl_mail.specs.declared.sent.SendCounts.{SendCounts}
-use Rattle.ctl_mail.specs.Prelude.{IsNewIn, Queues, copy_acts, counts_after, newer_local, newer_network, told_with_copy, AreMakeable, CopiesFit, CountsFit, IsMakeable, IsSeen, Told, after_act, after_acts, changed_mail, counts_in, mail_at_front}
+use Rattle.ctl_mail.specs.Prelude.{IsNewIn, copy_acts, counts_after, newer_local, newer_network, told_with_copy, AreMakeable, CopiesFit, CountsFit, IsMakeable, IsSeen, Told, after_act, after_acts, changed_mail, counts_in, mail_at_front}
 
 pub after-both : (now : ℕ) (mail : Mail) (xs ys : List MailAct) → after_acts now mail (xs ++ ys) ≡ after_acts now (after_acts now mail xs) ys
 unfolding after_acts

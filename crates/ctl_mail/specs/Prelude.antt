@@ -12,7 +12,7 @@ unfoldable pub use Rattle.ctl_mail.specs.Moves.{waiting_after}
 pub use Rattle.ctl_mail.specs.Numbers.{Adds, AddsOne, NumbersRise}
 pub use Rattle.ctl_mail.specs.Queues.{LosesNoRoom, LosesOneRoom, Queues, Replaces, messages_in, room_in}
 unfoldable pub use Rattle.ctl_mail.specs.Queues.{queue_of, room_of}
-pub use Rattle.ctl_mail.specs.Room.{HasPlaces, HasPlacesToWake, HasRoomToMake, LosesPlaces, is_stall, is_wake, mark_room}
+pub use Rattle.ctl_mail.specs.Room.{HasPlaces, HasPlacesToWake, HasRoomToMake, LosesPlaces, is_stall, is_wake, mark_room, KeepsRoom}
 unfoldable pub use Rattle.ctl_mail.specs.Room.{HasLastRoom}
 pub use Rattle.ctl_mail.specs.Sends.{AreNext, HaveNext, MaySend, OwnAreBelow, actor_of, copies_to_all, drawn_after, is_routed, jitter_at, mail_after, members_from, view_after, view_after_sending, view_sent, view_with_copies, view_with_network_copy}
 pub use Rattle.ctl_mail.specs.Sent.{HasSpace, copy_acts, copy_at, counts_after, newer_local, newer_network, told_with_act, told_with_copy}

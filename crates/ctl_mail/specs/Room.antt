@@ -60,3 +60,9 @@ pub record LosesPlaces (old new : MailStore) (less : ℕ) : Type 0 where
 pub record HasRoomFor (store : MailStore) (messages : ℕ) : Type 0 where
   pub buffers : (buffer : ℕ) → buffer < length store.buffers.items → messages ≤ room_of store.buffers.items buffer
   pub marks : messages < mark_room store
+
+-- no room is lost: for a mark, for messages that arrive, and for the changes of any scan
+pub record KeepsRoom (old new : MailStore) : Type 0 where
+  pub marks : mark_room old ≤ mark_room new
+  pub messages : (n : ℕ) → HasRoomFor old n → HasRoomFor new n
+  pub changes : (told : Told) → HasRoom old told → HasRoom new told

@@ -1,16 +1,13 @@
 -- The changes that a scan makes to mail, as plain data: the cycle, the counts that its next send goes on from, the acts on mail in
 -- their order, what they did to messages, and where those wait that they have stalled or woken. The changed mail is the mail after
 -- these acts, one after another.
-use Rattle.std.specs.Prelude.{◌≡◌, ◌≢◌, ◌+◌, ◌^◌, ◌<◌, ◌≤◌, ◌⊎◌, ◌↔◌, ℕ, Bool, true, List, [], ◌∷◌, Option, None, Some, Result, Ok, Err, Contains, is_some, map, if◌then◌else◌}
+use Rattle.std.specs.Prelude.{◌≡◌, ◌≢◌, ◌+◌, ◌^◌, ◌<◌, ◌≤◌, ◌⊎◌, ◌↔◌, ℕ, Bool, true, List, [], ◌∷◌, Option, None, Some, Result, Ok, Err, Contains, is_some, if◌then◌else◌}
 use Rattle.std.specs.List.{fold}
 use Rattle.std.specs.FinMap as finite
 use Rattle.ruby_value.specs.declared.fault.Fault.{Fault}
 use Rattle.ruby_value.specs.declared.message.MsgNo.{MsgNo}
-use Rattle.ruby_value.specs.declared.message.Message.{Message}
 use Rattle.stall_map.specs.declared.stalled.Stalled.{Stalled}
 use Rattle.ctl_face.specs.Prelude.{Acts, AtFront, at_front, InboxMessage, Mail, NumbersAscend, with_last, mail_with_mark, mail_with_arrival, front, popped_mail, mail_with_recycled, stalled_mail, is_under, woken_mail}
-use Rattle.ruby_value.specs.declared.message.Delivery.{Delivery}
-use Rattle.ruby_value.specs.declared.message.Sent.{Sent}
 use Rattle.ctl_mail.specs.declared.act.MailAct.{MailAct}
 use Rattle.ctl_mail.specs.declared.act.MailAct.TheVariants.{Arrive, Count, LocalLast, Mark, NetworkLast, Pop, Recycle, Stall, Wake, WakeAll}
 use Rattle.ctl_mail.specs.declared.changes.MailChanges.{MailChanges}

@@ -12,6 +12,7 @@ use crate::sent::SendCounts;
 use ruby_value::{Delivery, Message, MsgNo, NoMemory, Sent, Seq};
 use std::alloc::Global;
 use std::collections::VecDeque;
+use std::mem;
 
 /// What a scan changes in the mail of a controller, kept beside the mail until it is made or dropped.
 #[derive(Drop)]
@@ -31,20 +32,21 @@ pub struct MailChanges {
 }
 
 impl MailChanges {
-    /// No changes yet of this mail, of a scan in this cycle. It takes no memory.
-    pub fn begin(alloc: Global, store: &MailStore, cycle: u64) -> MailChanges
+    /// Forgets what the changes are, so that they are none of this mail yet, of a scan in this cycle. It takes no memory, and the
+    /// room that they have stays.
+    pub fn begin(&mut self, store: &MailStore, cycle: u64)
         requires { IsMail store.now }
         ensures none { let counts = counts_in (mail_of store.now) in
-            told_by result
+            told_by self.new
             ≡ record { cycle = cycle; counts = counts; log = []; acts = no_acts; moves = [] } }
-        ensures changes { AreOf store.now (told_by result) }
+        ensures changes { AreOf store.now (told_by self.new) }
     {
         let counts = SendCounts {
             sent: store.sent,
             drawn: store.drawn,
             copies: store.copies,
         };
-        MailChanges::new(alloc, cycle, counts)
+        self.clear(cycle, counts);
     }
 
     /// The cycle of the scan.
@@ -89,20 +91,40 @@ impl MailChanges {
         &self.sent
     }
 
-    /// The copies for other controllers, each with its receiver, in the order in which they were sent.
-    pub fn into_posted(self) -> Seq<Delivery<Message>>
-        ensures { result ≡ (told_by self).acts.posted }
+    /// Moves out the copies for other controllers, each with its receiver, in the order in which they were sent.
+    pub fn take_posted(&mut self) -> Seq<Delivery<Message>>
+        ensures { result ≡ (told_by self.old).acts.posted }
     {
-        Seq::of(self.posted)
+        Seq::of(mem::replace(&mut self.posted, Vec::new(self.alloc)))
     }
 
-    // No changes yet, of a scan in this cycle.
-    fn new(alloc: Global, cycle: u64, counts: SendCounts) -> MailChanges
-        ensures { told_by result
+    // Drops all changes, and is for a scan in this cycle. The room for them stays.
+    fn clear(&mut self, cycle: u64, counts: SendCounts)
+        ensures { told_by self.new
             ≡ record { cycle = cycle; counts = counts; log = []; acts = no_acts; moves = [] } }
     {
+        self.cycle = cycle;
+        self.counts = counts;
+        self.log.clear();
+        self.consumed.clear();
+        self.stalled.clear();
+        self.woken.clear();
+        self.recycled.clear();
+        self.sent.clear();
+        self.posted.clear();
+        self.again = false;
+        self.moves.clear();
+    }
+
+    /// Changes of no mail, which `begin` makes those of one. It takes no memory.
+    pub fn new(alloc: Global) -> MailChanges {
+        let counts = SendCounts {
+            sent: 0,
+            drawn: 0,
+            copies: 0,
+        };
         MailChanges {
-            cycle,
+            cycle: 0,
             counts,
             log: VecDeque::new(alloc),
             consumed: Vec::new(alloc),

@@ -9,6 +9,7 @@ mod census;
 mod changes;
 mod copies;
 mod lasts;
+mod lending;
 mod make;
 mod marks;
 mod moves;
@@ -25,6 +26,7 @@ mod wakings;
 
 pub use act::MailAct;
 pub use changes::MailChanges;
+pub use lending::{front_at, message};
 pub use reads::{front, peek, ready};
 pub use scan::{again, pop, recycle};
 pub use sends::send;

@@ -1,11 +1,11 @@
 // The acts on mail, made in a controller's mail as it is kept. They take no memory.
-ghost use Rattle.std.specs.Prelude.{◌≡◌, ◌<◌, ◌≤◌, ◌+◌, ℕ, [], ◌∷◌, true, IfNone, IfSome, OnOk, All, count_by, length};
+ghost use Rattle.std.specs.Prelude.{◌≡◌, ◌<◌, ◌≤◌, ◌+◌, ◌^◌, ℕ, [], ◌∷◌, true, IfNone, IfSome, OnOk, All, count_by, length};
 ghost use Rattle.std.specs.FinMap as finite;
 ghost use Rattle.ctl_face.specs.Prelude.{front, with_last, mail_with_mark, mail_with_arrival, mail_without};
 ghost use Rattle.ctl_mail.specs.declared.act.MailAct.TheVariants as act;
 ghost use Rattle.ctl_mail.specs.MailOf.{IsMail, IsNewIn, buffer_count, mail_of};
 ghost use Rattle.ctl_mail.specs.Queues.{LosesNoRoom, LosesOneRoom, room_of};
-ghost use Rattle.ctl_mail.specs.Room.{HasLastRoom, HasPlaces, HasPlacesToWake, HasRoom, LosesPlaces, is_stall, is_wake, mark_room};
+ghost use Rattle.ctl_mail.specs.Room.{HasLastRoom, HasPlaces, HasPlacesToWake, HasRoom, KeepsRoom, LosesPlaces, is_stall, is_wake, mark_room};
 ghost use Rattle.ctl_mail.specs.Told.{CopiesFit, CountsFit, IsMakeable, after_act, changed_mail, counted_mail, told_by};
 
 use crate::{MailAct, MailChanges, MailStore, lasts, marks, queues, stalls, wakings};
@@ -211,6 +211,7 @@ impl MailChanges {
 // routes that fit name no such buffer.
 fn reserve_place(store: &mut MailStore, act: &MailAct, more: usize) -> Result<(), NoMemory>
     requires mail { IsMail store.old }
+    requires few { more < 2 ^ 63 }
     ensures same { mail_of store.new ≡ mail_of store.old }
     ensures mail { IsMail store.new }
     ensures buffers { buffer_count store.new ≡ buffer_count store.old }
@@ -221,9 +222,7 @@ fn reserve_place(store: &mut MailStore, act: &MailAct, more: usize) -> Result<()
 {
     match act {
         MailAct::Arrive(m) => {
-            let Some(places) = store.stalls.len().checked_add(more) else {
-                return Err(NoMemory);
-            };
+            let places = store.stalls.len() + more;
             queues::reserve_at(&mut store.buffers, m.buffer, places)
         }
         MailAct::NetworkLast(network, _, _) => {
@@ -257,6 +256,7 @@ impl MailStore {
     // Makes a place in each buffer for all messages that wait, and for so many more. The mail stays as it is.
     fn reserve_to_wake(&mut self, more: usize) -> Result<(), NoMemory>
         requires mail { IsMail self.old }
+        requires few { more < 2 ^ 63 }
         ensures same { mail_of self.new ≡ mail_of self.old }
         ensures mail { IsMail self.new }
         ensures buffers { buffer_count self.new ≡ buffer_count self.old }
@@ -265,29 +265,22 @@ impl MailStore {
         ensures places { LosesPlaces self.old self.new 0 }
         ensures ok { OnOk result (HasPlacesToWake self.new more) }
     {
-        let Some(places) = self.stalls.len().checked_add(more) else {
-            return Err(NoMemory);
-        };
+        let places = self.stalls.len() + more;
         queues::reserve(&mut self.buffers, places)
     }
 
     /// Makes room for the changes, and for one mark after them, or answers that there is no memory for them. The mail stays
-    /// as it is.
+    /// as it is, and no room is lost, also where there was no memory.
     pub fn reserve(&mut self, changes: &MailChanges) -> Result<(), NoMemory>
         requires mail { IsMail self.old }
         ensures same { mail_of self.new ≡ mail_of self.old }
         ensures mail { IsMail self.new }
         ensures buffers { buffer_count self.new ≡ buffer_count self.old }
         ensures ok { OnOk result (HasRoom self.new (told_by changes.now)) }
+        ensures kept { KeepsRoom self.old self.new }
     {
-        let Some(more) = changes.log.len().checked_add(1) else {
-            return Err(NoMemory);
-        };
-        self.marks.reserve(more)?;
-        let stalls = changes.stall_count();
-        if stalls > 0 {
-            self.stalls.reserve(stalls)?;
-        }
+        self.marks.reserve(changes.log.len() + 1)?;
+        self.stalls.reserve(changes.stall_count())?;
         if changes.wake_count() > 0 {
             self.reserve_to_wake(changes.log.len())?;
         }

@@ -26,7 +26,7 @@ fn first_left<'a>(queue: &'a Buffer, changes: &MailChanges) -> Option<&'a Messag
 }
 
 // The buffer of this number, if there is one.
-fn buffer_at(buffers: &[Buffer], buffer: u16) -> Option<&Buffer>
+pub(crate) fn buffer_at(buffers: &[Buffer], buffer: u16) -> Option<&Buffer>
     ensures { option_copied result ≡ slice_get buffers.now buffer }
 {
     buffers.get(usize::from(buffer))
@@ -97,7 +97,11 @@ fn first_back<'a>(stalls: &'a StallMap, changes: &MailChanges, buffer: u16) -> O
 }
 
 // The first of the messages that are ready in the buffer now.
-fn first_ready<'a>(store: &'a MailStore, changes: &MailChanges, buffer: u16) -> Option<&'a Message>
+pub(crate) fn first_ready<'a>(
+    store: &'a MailStore,
+    changes: &MailChanges,
+    buffer: u16,
+) -> Option<&'a Message>
     requires { AreOf store.now (told_by changes.now) }
     ensures { IsLeast (IsEither store.now.buffers.items store.now.stalls.kept (told_by changes.now) buffer)
         (option_copied result) }

@@ -3,7 +3,7 @@ ghost use Rattle.std.specs.List.{find};
 ghost use Rattle.ctl_face.specs.Prelude.{mail_with_mark, mail_with_arrival, no_mail};
 ghost use Rattle.ctl_mail.specs.MailOf.{IsMail, buffer_count, IsNewIn, mail_at_cycle, mail_of};
 ghost use Rattle.ctl_mail.specs.Marks.{IsNextMark};
-ghost use Rattle.ctl_mail.specs.Room.{HasRoomFor, mark_room};
+ghost use Rattle.ctl_mail.specs.Room.{HasRoomFor, KeepsRoom, mark_room};
 
 use crate::{lasts, make, marks, queues};
 use msg_buffer::{Buffer, Message};
@@ -47,19 +47,17 @@ impl MailStore {
     }
 
     /// Makes room for so many messages, each with its mark, and for one mark beside them, or answers that there is no memory for
-    /// them. The mail stays as it is.
-    pub fn room(&mut self, messages: usize) -> Result<(), NoMemory>
+    /// them. The mail stays as it is, and no room is lost, also where there was no memory.
+    pub fn room(&mut self, messages: u32) -> Result<(), NoMemory>
         requires mail { IsMail self.old }
         ensures same { mail_of self.new ≡ mail_of self.old }
         ensures mail { IsMail self.new }
         ensures buffers { buffer_count self.new ≡ buffer_count self.old }
         ensures ok { OnOk result (HasRoomFor self.new messages) }
-        ensures no_less { (earlier : ℕ) → HasRoomFor self.old earlier → HasRoomFor self.new earlier }
+        ensures kept { KeepsRoom self.old self.new }
     {
-        let Some(marks) = messages.checked_add(1) else {
-            return Err(NoMemory);
-        };
-        self.marks.reserve(marks)?;
+        let messages = messages as usize;
+        self.marks.reserve(messages + 1)?;
         queues::reserve(&mut self.buffers, messages)
     }
 
@@ -109,8 +107,7 @@ impl MailStore {
         ensures after { mail_of self.new ≡ mail_at_cycle (mail_of self.old) cycle }
         ensures mail { IsMail self.new }
         ensures buffers { buffer_count self.new ≡ buffer_count self.old }
-        ensures room { mark_room self.old ≤ mark_room self.new }
-        ensures earlier { (messages : ℕ) → HasRoomFor self.old messages → HasRoomFor self.new messages }
+        ensures room { KeepsRoom self.old self.new }
     {
         marks::drop_below(&mut self.marks, cycle);
         self.copies = 0;

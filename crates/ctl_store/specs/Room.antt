@@ -17,6 +17,12 @@ pub record HasRoomForChanges (p : Parts) (changes : Changes) : Type 0 where
   pub tables : tables.HasRoomFor changes.tables p.tables
   pub mail : mail_room.HasRoom p.mail (told_by changes.mail)
 
+-- no room is lost
+pub record KeepsRoom (old new : Parts) : Type 0 where
+  pub mark : HasRoomForMark old → HasRoomForMark new
+  pub messages : (n : ℕ) → HasRoomForMessages old n → HasRoomForMessages new n
+  pub changes : (changes : Changes) → HasRoomForChanges old changes → HasRoomForChanges new changes
+
 -- what a store was made for stays
 pub record IsSameStore (old new : Parts) : Type 0 where
   pub machine : new.machine ≡ old.machine

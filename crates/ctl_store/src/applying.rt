@@ -4,6 +4,7 @@ ghost use Rattle.ctl_store.specs.Prelude.{FitCalls, FitChanges, acts_of, after_c
 
 use crate::changes::Changes;
 use crate::parts::Parts;
+use crate::scratch::Scratch;
 use ruby_value::{Delivery, Message, Seq};
 use sequencer::{Callbacks, Sequencer};
 
@@ -29,12 +30,14 @@ pub(crate) fn apply(parts: &mut Parts, changes: Changes) -> Seq<Delivery<Message
     ensures rest { (parts.new.fired ≡ parts.old.fired) × (parts.new.stopped ≡ parts.old.stopped) }
 {
     let Changes {
-        tables,
+        mut tables,
         mut mail,
         calls,
     } = changes;
-    parts.tables.apply(tables);
+    parts.tables.apply(&mut tables);
     parts.mail.apply(&mut mail);
     finish(calls, &mut parts.sequencer);
-    mail.into_posted()
+    let posted = mail.take_posted();
+    parts.scratch = Some(Scratch { tables, mail });
+    posted
 }

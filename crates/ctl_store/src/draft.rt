@@ -3,6 +3,7 @@ ghost use Rattle.ctl_store.specs.Scanned.{local_of};
 
 use crate::outcome::Outcome;
 use crate::scan::Scan;
+use crate::scratch::Scratch;
 use crate::store::Store;
 use ctl_face::Routes;
 use run_journal::FireNote;
@@ -37,9 +38,33 @@ impl<'a> Draft<'a> {
         ensures { view_of result ≡ scan_view (machine_of store.now)
             (record { me = me_of store.now; seed = seed; routes = routes.now }) now (ctl_of store.now) }
     {
-        let scan = Scan::begin(alloc, &store.parts, routes, seed, now);
+        Draft::with(alloc, Scratch::new(alloc), store, routes, seed, now)
+    }
+
+    /// The same, which keeps what it changes in lists that an earlier scan may have left, whatever is in them.
+    pub fn with(
+        alloc: Global,
+        scratch: Scratch,
+        store: &'a Store,
+        routes: &'a Routes,
+        seed: u64,
+        now: u64,
+    ) -> Draft<'a>
+        requires routes { HasRoutes (machine_of store.now) (me_of store.now) routes.now }
+        requires cycle { now ≤ last_cycle }
+        requires fits { Fits (machine_of store.now) (me_of store.now) (ctl_of store.now) now }
+        ensures { view_of result ≡ scan_view (machine_of store.now)
+            (record { me = me_of store.now; seed = seed; routes = routes.now }) now (ctl_of store.now) }
+    {
+        let scan = Scan::begin(alloc, scratch, &store.parts, routes, seed, now);
         scan.law();
         Draft { scan }
+    }
+
+    /// Ends the draft of a scan that fired no transition, which has changed nothing, and gives its lists for another one.
+    pub fn abandon(self) -> Scratch {
+        let Draft { scan } = self;
+        scan.into_scratch()
     }
 
     /// What holds of each draft. It does nothing.

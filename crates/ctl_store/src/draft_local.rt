@@ -1,5 +1,5 @@
 use crate::draft::Draft;
-use ctl_face::{Local, MachineSetup, Trouble};
+use ctl_face::{Local, MachineSetup, MessageAt, Trouble};
 use ruby_value::{Block, Fields, Message, Ref, Value};
 
 impl<'a> Local for Draft<'a> {
@@ -23,6 +23,10 @@ impl<'a> Local for Draft<'a> {
 
     fn get(&self, r: &Ref, field: u16) -> Result<Value, Trouble> {
         self.scan.get(r, field)
+    }
+
+    fn field(&self, r: &Ref, field: u16) -> Option<&Value> {
+        self.scan.field(r, field)
     }
 
     fn set(&mut self, r: &Ref, field: u16, v: Value) -> Result<(), Trouble> {
@@ -67,6 +71,14 @@ impl<'a> Local for Draft<'a> {
 
     fn peek(&self, buffer: u16) -> Option<&Message> {
         self.scan.peek(buffer)
+    }
+
+    fn front_at(&self, buffer: u16) -> Option<MessageAt> {
+        self.scan.front_at(buffer)
+    }
+
+    fn message(&self, at: MessageAt) -> &Message {
+        self.scan.message(at)
     }
 
     fn pop(&mut self, buffer: u16) -> Result<(), Trouble> {

@@ -3,10 +3,12 @@ ghost use Rattle.std.specs.Borrow.{sem};
 ghost use Rattle.std.specs.Option.{option_copied, option_copied_mut};
 ghost use Rattle.ctl_store.specs.Kept.{ctl_of, requests_of};
 ghost use Rattle.ctl_store.specs.Lending.{LendsSequencer};
-ghost use Rattle.ctl_store.specs.Room.{HasRoomForMessages, IsSameStore};
+ghost use Rattle.ctl_store.specs.Room.{HasRoomForMessages, IsSameStore, KeepsRoom};
 
+use crate::scratch::Scratch;
 use crate::store::Store;
 use sequencer::Sequencer;
+use std::alloc::Global;
 
 impl Store {
     /// The controller's sequencer, or `None` exactly where it has none, as it is of a machine without one. It takes no memory.
@@ -44,5 +46,26 @@ impl Store {
             → HasRoomForMessages self.new messages }
     {
         self.parts.sequencer = sequencer;
+    }
+
+    /// Moves out the lists that the last scan has left, for the next one to use, or ones without room. It takes no memory.
+    pub fn take_scratch(&mut self, alloc: Global) -> Scratch
+        ensures same { ctl_of self.new ≡ ctl_of self.old }
+        ensures store { IsSameStore self.old self.new }
+        ensures kept { KeepsRoom self.old self.new }
+    {
+        match self.parts.scratch.take() {
+            Some(scratch) => scratch,
+            None => Scratch::new(alloc),
+        }
+    }
+
+    /// Puts lists back that a scan has left which wasn't applied. It takes no memory.
+    pub fn put_scratch(&mut self, scratch: Scratch)
+        ensures same { ctl_of self.new ≡ ctl_of self.old }
+        ensures store { IsSameStore self.old self.new }
+        ensures kept { KeepsRoom self.old self.new }
+    {
+        self.parts.scratch = Some(scratch);
     }
 }

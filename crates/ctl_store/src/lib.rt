@@ -13,8 +13,10 @@ mod parts;
 mod scan;
 mod scan_calls;
 mod scan_tables;
+mod scratch;
 mod store;
 
 pub use draft::Draft;
 pub use outcome::Outcome;
+pub use scratch::Scratch;
 pub use store::Store;

@@ -1,7 +1,7 @@
 ghost use Rattle.std.specs.Prelude.{◌≡◌, ◌<◌, ◌+◌, ◌^◌, OnOk};
 ghost use Rattle.ctl_face.specs.Prelude.{with_one_fired};
 ghost use Rattle.ctl_store.specs.Kept.{ctl_of};
-ghost use Rattle.ctl_store.specs.Room.{HasRoomForMark, IsSameStore};
+ghost use Rattle.ctl_store.specs.Room.{HasRoomForMark, IsSameStore, KeepsRoom};
 ghost use Rattle.ctl_store.specs.Sealed.{HasRoomForOutcome, IsOutcomeFor, note_of, outcome_acts, outcome_ctl};
 
 use crate::applying::apply;
@@ -78,11 +78,12 @@ impl Outcome {
 
 impl Store {
     /// Makes room for what an outcome changes, and for one mark after it, or answers that there is no memory for it. The
-    /// controller stays as it is.
+    /// controller stays as it is, and no room is lost, also where there was no memory.
     pub fn reserve(&mut self, o: &Outcome) -> Result<(), NoMemory>
         ensures same { ctl_of self.new ≡ ctl_of self.old }
         ensures store { IsSameStore self.old self.new }
         ensures ok { OnOk result (HasRoomForOutcome self.new o.now) }
+        ensures kept { KeepsRoom self.old self.new }
     {
         self.parts.tables.reserve(&o.changes.tables)?;
         self.parts.mail.reserve(&o.changes.mail)
@@ -90,7 +91,8 @@ impl Store {
 
     /// Makes what an outcome changes, for which there is room, and counts one more transition as fired in this cycle. The outcome
     /// was sealed of a scan of this controller as it is. Answers the copies for other controllers with their receivers, in the order
-    /// in which they were sent. It takes no memory, and leaves room for one mark.
+    /// in which they were sent. It takes no memory, and leaves room for one mark. The lists of the scan are the store's for the
+    /// next one.
     pub fn apply(&mut self, o: Outcome) -> Seq<Delivery<Message>>
         requires sealed { IsOutcomeFor o (ctl_of self.old) }
         requires room { HasRoomForOutcome self.old o }

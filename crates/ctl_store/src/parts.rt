@@ -1,3 +1,4 @@
+use crate::scratch::Scratch;
 use ctl_mail::MailStore;
 use ctl_tables::Tables;
 use ruby_value::MachineSetup;
@@ -13,4 +14,5 @@ pub struct Parts {
     pub(crate) sequencer: Option<Sequencer>,
     pub(crate) fired: u64,
     pub(crate) stopped: bool,
+    pub(crate) scratch: Option<Scratch>,
 }

@@ -1,6 +1,6 @@
-ghost use Rattle.std.specs.Prelude.{◌≡◌, ◌≤◌, Ok};
+ghost use Rattle.std.specs.Prelude.{◌≡◌, ◌≤◌, Ok, Some, IfSome, is_some};
 ghost use Rattle.std.specs.Option.{option_copied};
-ghost use Rattle.ctl_face.specs.Prelude.{Fits, IsLawful, last_cycle, HasRoutes, scan_view, again, Does, Reads, enqueue, pop, front_now, ready, required_front, recycle, TakesMessage, stall, wake, wake_all};
+ghost use Rattle.ctl_face.specs.Prelude.{Fits, IsLawful, last_cycle, HasRoutes, scan_view, again, Does, Reads, enqueue, pop, IsPlace, message_at, front_now, ready, required_front, recycle, TakesMessage, stall, wake, wake_all};
 ghost use Rattle.ctl_store.specs.Kept.{IsKept, ctl_of};
 ghost use Rattle.ctl_store.specs.Scanned.{local_of};
 ghost use Rattle.ctl_store.specs.Sealed.{IsOutcomeOf};
@@ -9,8 +9,8 @@ ghost use Rattle.ruby_value.specs.Prelude.{IsLine};
 use crate::Outcome;
 use crate::changes::Changes;
 use crate::parts::Parts;
-use ctl_face::{MachineSetup, Routes, Trouble};
-use ctl_mail::MailChanges;
+use crate::scratch::Scratch;
+use ctl_face::{MachineSetup, MessageAt, Routes, Trouble};
 use ruby_value::{Fields, Message};
 use run_journal::FireNote;
 use sequencer::Callbacks;
@@ -46,6 +46,7 @@ impl<'a> Scan<'a> {
     /// No scan yet has changed anything. It takes no memory.
     pub(crate) fn begin(
         alloc: Global,
+        scratch: Scratch,
         parts: &'a Parts,
         routes: &'a Routes,
         seed: u64,
@@ -58,9 +59,15 @@ impl<'a> Scan<'a> {
         ensures { local_of result ≡ scan_view parts.now.machine (record { me = parts.now.me; seed = seed; routes = routes.now })
             now (ctl_of parts.now) }
     {
+        let Scratch {
+            mut tables,
+            mut mail,
+        } = scratch;
+        parts.tables.begin(&mut tables);
+        mail.begin(&parts.mail, now);
         let changes = Changes {
-            tables: parts.tables.changes(alloc),
-            mail: MailChanges::begin(alloc, &parts.mail, now),
+            tables,
+            mail,
             calls: Callbacks::new(alloc),
         };
         Scan {
@@ -69,6 +76,16 @@ impl<'a> Scan<'a> {
             seed,
             changes,
         }
+    }
+
+    /// The lists of the scan, for another one.
+    pub(crate) fn into_scratch(self) -> Scratch {
+        let Changes {
+            tables,
+            mail,
+            calls: _,
+        } = self.changes;
+        Scratch { tables, mail }
     }
 
     /// What holds of each scan. It does nothing.
@@ -150,6 +167,21 @@ impl<'a> Scan<'a> {
         ensures { Reads (required_front (local_of self.now) buffer) result }
     {
         ctl_mail::front(&self.parts.mail, &self.changes.mail, buffer)
+    }
+
+    pub(crate) fn front_at(&self, buffer: u16) -> Option<MessageAt>
+        ensures there { is_some result ≡ ready (local_of self.now) buffer }
+        ensures place { IfSome result (IsPlace (local_of self.now)) }
+        ensures front { IfSome result (λ at. message_at (local_of self.now) at ≡ front_now (local_of self.now) buffer) }
+    {
+        ctl_mail::front_at(&self.parts.mail, &self.changes.mail, buffer)
+    }
+
+    pub(crate) fn message(&self, at: MessageAt) -> &Message
+        requires place { IsPlace (local_of self.now) at }
+        ensures { message_at (local_of self.now) at ≡ Some result.now }
+    {
+        ctl_mail::message(&self.parts.mail, at)
     }
 
     pub(crate) fn stall(&mut self, buffer: u16, line: u64) -> Result<(), Trouble>

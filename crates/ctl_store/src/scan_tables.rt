@@ -2,7 +2,7 @@
 ghost use Rattle.std.specs.Prelude.{◌≡◌, Ok, slice_get};
 ghost use Rattle.std.specs.Option.{option_copied, option_map};
 ghost use Rattle.ruby_value.specs.declared.setup.TableSetup.{TableSetup};
-ghost use Rattle.ctl_face.specs.Prelude.{allocate, avail, probe, deallocate, Does, DoesWith, Reads, IsLawful, free, get, lookup, reference_to, HasStates, Serves, TakesField, looks_up, set, set_state, state, touch};
+ghost use Rattle.ctl_face.specs.Prelude.{allocate, answered, avail, probe, field_behind, deallocate, Does, DoesWith, Reads, IsLawful, free, get, lookup, reference_to, HasStates, Serves, TakesField, looks_up, set, set_state, state, touch};
 ghost use Rattle.ruby_value.specs.Prelude.{IsLine};
 ghost use Rattle.ctl_store.specs.Scanned.{local_of};
 
@@ -25,6 +25,14 @@ impl<'a> Scan<'a> {
         ensures { Reads (get (local_of self.now) r.now field) result }
     {
         self.parts.tables.get(&self.changes.tables, r, field)
+    }
+
+    pub(crate) fn field(&self, r: &Ref, field: u16) -> Option<&Value>
+        ensures { option_copied result ≡ field_behind (local_of self.now) r.now field }
+    {
+        self.parts
+            .tables
+            .field(&self.changes.tables, r.table, r.line, field)
     }
 
     pub(crate) fn set(&mut self, r: &Ref, field: u16, v: Value) -> Result<(), Trouble>
@@ -73,7 +81,7 @@ impl<'a> Scan<'a> {
     }
 
     pub(crate) fn probe(&self, table: u16, line: u64) -> Result<u64, Trouble>
-        ensures { Reads (probe (local_of self.now) table line) result }
+        ensures { result ≡ answered (probe (local_of self.now) table line) }
     {
         self.parts.tables.probe(&self.changes.tables, table, line)
     }

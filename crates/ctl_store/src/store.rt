@@ -2,7 +2,7 @@ ghost use Rattle.std.specs.Prelude.{◌≡◌, ◌<◌, ◌+◌, ℕ, IfOk, OnOk
 ghost use Rattle.ctl_face.specs.Prelude.{at_cycle, with_arrival, with_stop, with_wake_up, IsMachine, no_requests, opening_ctl};
 ghost use Rattle.ctl_mail.specs.Prelude.{capped, is_queued, is_recycled, is_stalled, IsNewIn, IsNextMark};
 ghost use Rattle.ctl_store.specs.Kept.{ctl_of, machine_of, me_of, requests_of};
-ghost use Rattle.ctl_store.specs.Room.{HasRoomForMark, HasRoomForMessages, IsSameStore};
+ghost use Rattle.ctl_store.specs.Room.{HasRoomForMark, HasRoomForMessages, IsSameStore, KeepsRoom};
 
 use crate::parts::Parts;
 use ctl_face::{MachineSetup, Message};
@@ -72,18 +72,20 @@ impl Store {
                 sequencer,
                 fired: 0,
                 stopped: false,
+                scratch: None,
             },
         })
     }
 
     /// Makes room for so many messages that arrive, each with its mark, and for one mark beside them, or answers that there is no
-    /// memory for them. The controller stays as it is.
+    /// memory for them. The controller stays as it is, and no room is lost, also where there was no memory.
     pub fn room(&mut self, messages: u32) -> Result<(), NoMemory>
         ensures same { ctl_of self.new ≡ ctl_of self.old }
         ensures store { IsSameStore self.old self.new }
         ensures ok { OnOk result (HasRoomForMessages self.new messages) }
+        ensures kept { KeepsRoom self.old self.new }
     {
-        self.parts.mail.room(messages as usize)
+        self.parts.mail.room(messages)
     }
 
     /// Sets a mark: a cycle at which the controller must wake. It takes no memory.
@@ -91,6 +93,8 @@ impl Store {
         requires { HasRoomForMark self.old }
         ensures after { ctl_of self.new ≡ with_wake_up (ctl_of self.old) cycle }
         ensures store { IsSameStore self.old self.new }
+        ensures room { (messages : ℕ) → HasRoomForMessages self.old (messages + 1)
+            → HasRoomForMessages self.new messages }
     {
         self.parts.mail.mark(cycle);
     }
@@ -99,6 +103,7 @@ impl Store {
     pub fn halt(&mut self)
         ensures after { ctl_of self.new ≡ with_stop (ctl_of self.old) }
         ensures store { IsSameStore self.old self.new }
+        ensures kept { KeepsRoom self.old self.new }
     {
         self.parts.stopped = true;
     }
@@ -107,6 +112,7 @@ impl Store {
     pub fn begin(&mut self, now: u64)
         ensures after { ctl_of self.new ≡ at_cycle (ctl_of self.old) now }
         ensures store { IsSameStore self.old self.new }
+        ensures kept { KeepsRoom self.old self.new }
     {
         self.parts.mail.begin(now);
         self.parts.fired = 0;

@@ -1,4 +1,8 @@
 -- Changes that are made in the containers.
+use Rattle.std.specs.declared.alloc.Global.{Global}
+use Rattle.std.specs.declared.vec.Vec.{Vec}
+use Rattle.std.specs.Vec.{with_items}
+use Rattle.std.proofs.lemmas.List.{with_items_is}
 use Rattle.std.proofs.Common.{◌≡◌, ◌≤◌, ◌<◌, ◌+◌, ℕ, zero, suc, List, [], ◌∷◌, ◌++◌, All, length, get_or, map, set, take, None, Some, slice_get, refl, sym, ap, subst, ◌∙◌, arith}
 use Rattle.std.proofs.lemmas.List.{length-map, map-append, map-set, take_more, take_more_set}
 use Rattle.std.proofs.lemmas.List.Elements.{All-push, All-set}
@@ -22,6 +26,18 @@ same_tables = same_map_set table_of
 
 pub more_room : (tables : List StoredTable) (i n : ℕ) (new : StoredTable) → i < length tables → All (HasRoom n) (take i tables) → HasRoom n new → All (HasRoom n) (take (i + 1) (set tables i new))
 more_room tables i n new inside all here = rw (take_more_set tables i new inside) (All-push (HasRoom n) (take i tables) new all here)
+
+pub room_kept : (tables : List StoredTable) (i n : ℕ) (x new : StoredTable) → i < length tables → x ≡ get_or tables i x → (HasRoom n x → HasRoom n new) → All (HasRoom n) tables → All (HasRoom n) (set tables i new)
+room_kept tables i n x new inside is keeps all =
+    let P : StoredTable → Type 0 = HasRoom n in
+    All-set (HasRoom n) tables i new (keeps (subst P (sym is) (all i x inside))) all
+
+-- tables that are written back into the list that they were taken from
+pub room_written : (tables : Vec StoredTable Global) (lent new : List StoredTable) (n : ℕ) → lent ≡ tables.items → length new ≡ length lent → (All (HasRoom n) lent → All (HasRoom n) new) → All (HasRoom n) tables.items
+    → All (HasRoom n) (with_items tables new).items
+room_written tables lent new n is count keeps all =
+    let long : length new ≡ tables.len = omega (arith, count, ap (λ (l : List StoredTable). length l) is, tables.ok.0) in
+    subst (All (HasRoom n)) (sym (with_items_is tables new long)) (keeps (subst (All (HasRoom n)) (sym is) all))
 
 -- one change is made
 pub made_one : (tables : List StoredTable) (c : TableChange) (x new : StoredTable) → c.table < length tables → x ≡ get_or tables c.table x → table_of new ≡ or_same (table_of x) (edit_in c.edit c.line (table_of x)) → map table_of (set tables c.table new) ≡ with_change c (map table_of tables)

@@ -37,8 +37,8 @@ pub struct TableChanges {
 }
 
 impl TableChanges {
-    // No changes. It takes no memory.
-    pub(crate) fn new(alloc: Global) -> TableChanges
+    /// No changes. It takes no memory.
+    pub fn new(alloc: Global) -> TableChanges
         ensures tables { log_of result ≡ [] }
         ensures states { state_log_of result ≡ [] }
     {
@@ -46,5 +46,14 @@ impl TableChanges {
             log: Vec::new(alloc),
             states: Vec::new(alloc),
         }
+    }
+
+    // Drops all changes. The room for them stays.
+    pub(crate) fn clear(&mut self)
+        ensures tables { log_of self.new ≡ [] }
+        ensures states { state_log_of self.new ≡ [] }
+    {
+        self.log.clear();
+        self.states.clear();
     }
 }

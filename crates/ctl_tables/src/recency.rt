@@ -1,8 +1,8 @@
 // The least recently used line of a set of a cache, through the changes of a scan.
-ghost use Rattle.std.specs.Prelude.{◌≡◌, ◌&&◌, false, Some, IfErr, IfNone, IfSome, reverse, slice_get};
+ghost use Rattle.std.specs.Prelude.{◌≡◌, ◌&&◌, false, Some, IfNone, IfSome, reverse, slice_get};
 ghost use Rattle.std.specs.List.{find, list_any};
 ghost use Rattle.ruby_value.specs.Prelude.{set_of};
-ghost use Rattle.ctl_face.specs.Prelude.{least_used_in, Reads, CacheTable};
+ghost use Rattle.ctl_face.specs.Prelude.{answered, least_used_in, CacheTable};
 ghost use Rattle.ctl_tables.specs.Container.{table_of};
 ghost use Rattle.ctl_tables.specs.Frames.{frame_of, keeps_order};
 ghost use Rattle.ctl_tables.specs.Recency.{edit_moves, edit_uses, first_used, moves, numbers_of, order_after, stays_in, uses_beside};
@@ -146,8 +146,7 @@ impl Tables {
     /// takes no memory.
     pub fn probe(&self, changes: &TableChanges, table: u16, line: u64) -> Result<u64, Trouble>
         requires { AreOf changes.now self.now }
-        ensures answer { Reads (probe_from (tables_now self.now changes.now) table line) result }
-        ensures fault { IfErr result (λ trouble. trouble ≡ Trouble.Fault Fault.Probe) }
+        ensures { result ≡ answered (probe_from (tables_now self.now changes.now) table line) }
     {
         if self.avail(changes, table, line) {
             return Err(Trouble::Fault(Fault::Probe));

@@ -94,6 +94,7 @@ impl StoredTable {
     pub(crate) fn reserve(&mut self, more: usize) -> Result<(), NoMemory>
         ensures same { table_of self.new ≡ table_of self.old }
         ensures ok { OnOk result (HasRoom more self.new) }
+        ensures no_less { (n : ℕ) → HasRoom n self.old → HasRoom n self.new }
     {
         match self {
             StoredTable::Cache(_) => Ok(()),

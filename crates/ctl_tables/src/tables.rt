@@ -1,7 +1,9 @@
-ghost use Rattle.std.specs.Prelude.{◌≡◌, ◌+◌, ℕ, IfOk, OnOk, map, unwrap_or, vec_len};
+ghost use Rattle.std.specs.Prelude.{◌≡◌, ◌≤◌, ◌+◌, ℕ, IfOk, OnOk, length, map, unwrap_or, vec_len};
 ghost use Rattle.std.specs.List.{All};
 ghost use Rattle.ruby_value.specs.declared.setup.TableSetup.{TableSetup};
 ghost use Rattle.ctl_face.specs.Prelude.{HasPlaces, IsMachine, opening_ctl, opening_table};
+ghost use Rattle.ruby_value.specs.Prelude.{with_all};
+ghost use Rattle.ctl_tables.specs.declared.change.TableChanges.{TableChanges};
 ghost use Rattle.ctl_tables.specs.After.{after_changes, with_change};
 ghost use Rattle.ctl_tables.specs.Container.{table_of, HasRoom};
 ghost use Rattle.ctl_tables.specs.Stored.{default_of, states_now, states_of, tables_now, tables_of, AreOf, HasRoomFor};
@@ -29,13 +31,14 @@ impl Tables {
         })
     }
 
-    /// No changes yet. It takes no memory.
-    pub fn changes(&self, alloc: Global) -> TableChanges
-        ensures replays { AreOf result self.now }
-        ensures tables { tables_now self.now result ≡ tables_of self.now }
-        ensures states { states_now self.now result ≡ states_of self.now }
+    /// Forgets what the changes are, so that they are none of these tables yet. It takes no memory, and the room that they have
+    /// stays.
+    pub fn begin(&self, changes: &mut TableChanges)
+        ensures replays { AreOf changes.new self.now }
+        ensures tables { tables_now self.now changes.new ≡ tables_of self.now }
+        ensures states { states_now self.now changes.new ≡ states_of self.now }
     {
-        TableChanges::new(alloc)
+        changes.clear();
     }
 
     /// Makes room for changes, or answers that there is no memory for them. Tables and states stay as they are.
@@ -44,27 +47,24 @@ impl Tables {
         ensures states { states_of self.new ≡ states_of self.old }
         ensures default { default_of self.new ≡ default_of self.old }
         ensures room { OnOk result (HasRoomFor changes.now self.new) }
+        ensures kept { (others : TableChanges) → HasRoomFor others self.old → HasRoomFor others self.new }
     {
         reserve_all(&mut self.tables, changes.log.len())?;
         self.states.reserve(changes.states.len())?;
         Ok(())
     }
 
-    /// Makes changes for which there is room. It takes no memory.
-    pub fn apply(&mut self, changes: TableChanges)
-        requires { HasRoomFor changes self.old }
-        ensures tables { tables_of self.new ≡ tables_now self.old changes }
-        ensures states { states_of self.new ≡ states_now self.old changes }
+    /// Makes changes for which there is room, of which none is left. It takes no memory.
+    pub fn apply(&mut self, changes: &mut TableChanges)
+        requires { HasRoomFor changes.old self.old }
+        ensures tables { tables_of self.new ≡ tables_now self.old changes.old }
+        ensures states { states_of self.new ≡ states_now self.old changes.old }
         ensures default { default_of self.new ≡ default_of self.old }
     {
-        let TableChanges {
-            mut log,
-            mut states,
-        } = changes;
-        log.reverse();
-        states.reverse();
-        change_all(&mut self.tables, log);
-        self.states.put_all(states);
+        changes.log.reverse();
+        changes.states.reverse();
+        change_all(&mut self.tables, &mut changes.log);
+        put_all(&mut self.states, &mut changes.states);
     }
 }
 
@@ -82,10 +82,13 @@ fn open_all(alloc: Global, setups: &[TableSetup]) -> Result<Vec<StoredTable>, No
 }
 
 // Makes room for so many more lines in each of the tables.
-#[tactic(auto, using(crate::proofs::Replaying::same_tables, crate::proofs::Replaying::more_room))]
+
+#[tactic(auto, using(crate::proofs::Replaying::same_tables))]
 fn reserve_all(tables: &mut [StoredTable], more: usize) -> Result<(), NoMemory>
     ensures same { map table_of tables.new ≡ map table_of tables.old }
     ensures ok { OnOk result (All (HasRoom more) tables.new) }
+    ensures no_less { (n : ℕ) → All (HasRoom n) tables.old → All (HasRoom n) tables.new }
+    ensures count { length tables.new ≡ length tables.old }
 {
     for i in 0..tables.len() {
         tables[i].reserve(more)?;
@@ -107,11 +110,21 @@ fn change_one(tables: &mut [StoredTable], table: u16, line: u64, edit: Edit)
 }
 
 // Makes changes that stand with the newest first, from the last one on.
-fn change_all(tables: &mut [StoredTable], mut newest_first: Vec<TableChange>)
-    requires { All (HasRoom (vec_len newest_first)) tables.old }
-    ensures { map table_of tables.new ≡ after_changes newest_first.items (map table_of tables.old) }
+fn change_all(tables: &mut [StoredTable], newest_first: &mut Vec<TableChange>)
+    requires { All (HasRoom (vec_len newest_first.old)) tables.old }
+    ensures { map table_of tables.new ≡ after_changes newest_first.old.items (map table_of tables.old) }
 {
     while let Some(change) = newest_first.pop() {
         change_one(tables, change.table, change.line, change.edit);
+    }
+}
+
+// Keeps states under their lines one after another, from the last one on, where there is room.
+fn put_all(states: &mut LineMap<u16>, newest_first: &mut Vec<(u64, u16)>)
+    requires { vec_len newest_first.old ≤ states.old.room }
+    ensures { states.new.kept ≡ with_all states.old.kept newest_first.old.items }
+{
+    while let Some((line, state)) = newest_first.pop() {
+        let _before = states.put(line, state);
     }
 }

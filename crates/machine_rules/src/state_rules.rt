@@ -37,7 +37,8 @@ fn function_found<'a>(d: Option<Declared<'a>>) -> Option<&'a Function>
     }
 }
 
-fn function_named<'a>(m: MachineIn<'_, 'a>, name: &[u8]) -> Option<&'a Function>
+/// The function that a machine declares by a name.
+pub fn function_named<'a>(m: MachineIn<'_, 'a>, name: &[u8]) -> Option<&'a Function>
     requires { IsMachineIn m }
     ensures { option_copied result ≡ function_named m.entry.machine.now name.now }
 {

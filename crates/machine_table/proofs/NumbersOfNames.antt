@@ -1,7 +1,7 @@
 -- Numbers that are found by names, as more names get theirs.
 use Rattle.std.proofs.Common.{◌≡◌, ℕ, zero, suc, ◌+◌, ◌<◌, ◌≤◌, Bool, true, false, cond, not, ◌||◌, Option, None, Some, is_some, List, [], ◌∷◌, ◌++◌, map, filter, filter_map, flat_map, length, take, position, slice_get, slice_index_or, option_and_then, nat_lt, eqb, refl, sym, ap, subst, ◌∙◌, arith, add-one, append-nil, bytes_eq}
 use Rattle.std.specs.List.{cons_option, list_any, position_or_len}
-use Rattle.std.specs.Option.{option_or}
+use Rattle.std.specs.Option.{option_map, option_or}
 use Rattle.std.proofs.Math.Seq.{take-suc}
 use Rattle.std.proofs.lemmas.List.{length-append, map-append}
 use Rattle.std.proofs.lemmas.List.Elements.{filter-append, filter_map-append}
@@ -15,7 +15,10 @@ use Rattle.slicc_ast.specs.declared.tree.machine.Action.{Action}
 use Rattle.slicc_ast.specs.declared.tree.machine.Decl.{Decl}
 use Rattle.slicc_ast.specs.declared.tree.machine.Decl.TheVariants.{States, Enumeration, Structure, OutPort, InPort, Action as ActionDecl, Transition as TransitionDecl, Function, Object}
 use Rattle.slicc_ast.specs.declared.tree.machine.Machine.{Machine}
+use Rattle.slicc_ast.specs.declared.tree.machine.NextState.{NextState}
+use Rattle.slicc_ast.specs.declared.tree.machine.NextState.TheVariants.{Named, Asked}
 use Rattle.slicc_ast.specs.declared.tree.machine.Transition.{Transition}
+use Rattle.ruby_symbols.specs.declared.machine.Next.TheVariants.{To}
 use Rattle.slicc_plan.specs.Prelude.{event_members, is_action, state_members, actions_of, each_once, next_number, transitions_of, written, written_of, Declaration, action, is_named, is_text, name_of, named_declarations}
 use Rattle.slicc_plan.specs.Machines.{names_in}
 use Rattle.machine_table.specs.declared.numbers.PartNumbers.{PartNumbers}
@@ -173,9 +176,10 @@ action_counted ds i k d a below at is count =
 
 -- Names in transitions.
 
-next_same : (found : Finding) (m : Machine) → ((text : List ℕ) → found text ≡ position (is_named text) (state_members m)) → (o : Option Name) → found_next found o ≡ next_number m o
+next_same : (found : Finding) (m : Machine) → ((text : List ℕ) → found text ≡ position (is_named text) (state_members m)) → (o : Option NextState) → found_next found o ≡ next_number m o
 next_same found m h None = refl
-next_same found m h (Some n) = h n.text
+next_same found m h (Some (Named n)) = ap (option_map To) (h n.text)
+next_same found m h (Some (Asked place)) = refl
 
 pub written_same : (parts : PartNumbers) (m : Machine) → ((text : List ℕ) → found_by parts.states text ≡ position (is_named text) (state_members m)) → ((text : List ℕ) → found_by parts.events text ≡ position (is_named text) (event_members m)) → ((text : List ℕ) → found_by parts.actions text ≡ position (is_named text) (actions_of m)) → map (written_with parts) (transitions_of m) ≡ written_of m
 written_same parts m states events actions = λ i. map (λ t. one t i) (transitions_of m)

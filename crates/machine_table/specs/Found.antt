@@ -1,9 +1,13 @@
 -- The numbers of names. A number is found by a name where a name was given one, and the first counts.
 use Rattle.std.specs.Prelude.{◌≡◌, ℕ, Option, None, Some, List}
 use Rattle.std.specs.Prelude.{cond, filter, filter_map, flat_map, option_and_then, position, slice_get}
-use Rattle.std.specs.Option.{option_or}
+use Rattle.std.specs.Option.{option_map, option_or}
 use Rattle.std.specs.Str.{bytes_eq}
 use Rattle.slicc_ast.specs.declared.tree.name.Name.{Name}
+use Rattle.ruby_symbols.specs.declared.machine.Next.{Next}
+use Rattle.ruby_symbols.specs.declared.machine.Next.TheVariants.{To, Asked as AskedFor}
+use Rattle.slicc_ast.specs.declared.tree.machine.NextState.{NextState}
+use Rattle.slicc_ast.specs.declared.tree.machine.NextState.TheVariants.{Named, Asked}
 use Rattle.slicc_ast.specs.declared.tree.machine.Transition.{Transition}
 use Rattle.ruby_base.specs.Prelude.{number_among}
 use Rattle.slicc_plan.specs.declared.row.Written.{Written}
@@ -39,9 +43,10 @@ found_with found name number text = option_or (found text) (cond (bytes_eq name 
 abbrev pub found_name : Finding → Name → Option ℕ
 found_name found n = found n.text
 
-abbrev pub found_next : Finding → Option Name → Option ℕ
+abbrev pub found_next : Finding → Option NextState → Option Next
 found_next found None = None
-found_next found (Some n) = found n.text
+found_next found (Some (Named n)) = option_map To (found n.text)
+found_next found (Some (Asked place)) = Some AskedFor
 
 abbrev pub IsFoundWith : Numbers → List ℕ → ℕ → Numbers → Type 0
 IsFoundWith old name number new = (text : List ℕ) → found_by new text ≡ found_with (found_by old) name number text

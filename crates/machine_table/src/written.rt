@@ -8,8 +8,8 @@ ghost use Rattle.machine_table.specs.Prelude.{found_by, found_name, found_next, 
 use crate::by_name::Numbers;
 use crate::numbers::{PartNumbers, part_numbers};
 use ruby_base::{NoMemory, Seq};
-use slicc_ast::tree::{Decl, Machine, Name, Names, Transition};
-use slicc_plan::Written;
+use slicc_ast::tree::{Decl, Machine, Name, Names, NextState, Transition};
+use slicc_plan::{Next, Written};
 use std::alloc::Global;
 
 // Adds the number of a name, where it has one.
@@ -80,12 +80,16 @@ fn numbers_once(alloc: Global, names: &Names, numbers: &Numbers) -> Result<Seq<u
     once(alloc, &all)
 }
 
-fn next_number(next: &Option<Name>, numbers: &Numbers) -> Option<u16>
+fn next_number(next: &Option<NextState>, numbers: &Numbers) -> Option<Next>
     ensures { result ≡ found_next (found_by numbers.now) next.now }
 {
     match next {
         None => None,
-        Some(name) => numbers.find(name.text.as_slice()),
+        Some(NextState::Named(name)) => match numbers.find(name.text.as_slice()) {
+            None => None,
+            Some(number) => Some(Next::To(number)),
+        },
+        Some(NextState::Asked(_)) => Some(Next::Asked),
     }
 }
 

@@ -1,7 +1,9 @@
 ghost use Rattle.std.specs.Prelude.{◌≡◌, ◌<◌, ◌≤◌, ◌+◌, ◌↔◌, [], None, Some, length, count_by, IfOk, IfErr, IfSome, IsOk, IsSome, IsTrue, OnOk, OnErr, insert};
+ghost use Rattle.std.specs.List.{find};
 ghost use Rattle.std.specs.Option.{option_copied};
 ghost use Rattle.std.specs.VecDeque.{deque_len, deque_capacity};
 ghost use Rattle.ruby_value.specs.declared.message.Message.{Message};
+ghost use Rattle.ruby_value.specs.Prelude.{same_number};
 ghost use Rattle.msg_buffer.specs.Queue.{IsFront, IsNew, IsQueue, front, is_after, next_after, with_message, with_recycled, without_message};
 
 use crate::{Message, MsgNo, NoMemory};
@@ -175,6 +177,13 @@ impl Buffer {
             Some(m) if m.arrival <= now => Some(m),
             _ => None,
         }
+    }
+
+    /// The message of this number, or `None` exactly where there is none. It looks from the front.
+    pub fn find(&self, number: MsgNo) -> Option<&Message>
+        ensures { option_copied result ≡ find (λ (m : Message). same_number m.number number) self.now.kept }
+    {
+        self.queue.iter().find(|m| m.number == number)
     }
 
     /// How many of the messages were recycled at any time.

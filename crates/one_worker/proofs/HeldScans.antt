@@ -1,21 +1,23 @@
 -- A scan of a controller that is held: it begins as a draft may, and what code has done as a round is what the run has of it.
 use Rattle.std.proofs.Common.{◌≡◌, ◌≤◌, ℕ, Bool, true, false, cond, List, Ok, Some, sym, ◌∙◌, ap, subst, slice_get, arith}
 use Rattle.std.proofs.lemmas.Option.{same_Some}
+use Rattle.slicc_ast.specs.declared.tree.item.Tree.{Tree}
 use Rattle.ruby_value.specs.declared.message.Message.{Message}
 use Rattle.ruby_value.specs.declared.setup.MachineSetup.{MachineSetup}
 use Rattle.run_journal.specs.declared.entry.End.TheVariants as end
 use Rattle.run_journal.specs.declared.entry.FireNote.{FireNote}
 use Rattle.run_journal.specs.declared.entry.StopAt.{StopAt}
 use Rattle.protocol_runs.specs.Prelude.{Filled, Halted, Idled, Fired, Idle, Scan, World, IsSetting, FitsRun, actor_of, setup_of, Meaning, acts_told, Setting}
-use Rattle.ctl_face.specs.Prelude.{Acts, again, Ctl, Fits, last_cycle, Actor, LocalView, HasRoutes, scan_view}
+use Rattle.ctl_face.specs.Prelude.{Acts, again, Ctl, Fits, IsLawful, IsOfMachine, last_cycle, Actor, LocalView, HasRoutes, scan_view}
 use Rattle.ctl_face.specs.declared.routes.Routes.{Routes}
 use Rattle.ctl_face.proofs.OwnBuffers.{fit_each}
 use Rattle.ctl_store.specs.declared.outcome.Outcome.{Outcome}
 use Rattle.ctl_store.specs.Prelude.{machine_of, me_of, IsOutcomeFor, IsOutcomeOf, note_of, outcome_acts, outcome_ctl}
-use Rattle.protocol_meaning.specs.Prelude.{meaning_of, outcome_of, scan_of, outcome_of_round}
+use Rattle.protocol_meaning.specs.Prelude.{FitsPlan, IsLocalOf, IsServedLocal, meaning_of, outcome_of, scan_of, outcome_of_round}
 use Rattle.protocol_meaning.proofs.Fired.{fired_same}
+use Rattle.protocol_meaning.proofs.Locals.{local_fits}
 use Rattle.protocol_meaning.proofs.Rounds.{round_told}
-use Rattle.protocol_runs.proofs.Controllers.{IsOne, and-some, controller-is, one-of}
+use Rattle.protocol_runs.proofs.Controllers.{IsOne, and-some, controller-is, of-one, one-of}
 use Rattle.protocol_runs.proofs.Scans as scans
 use Rattle.body_meaning.specs.declared.frame.RoundEnd.{RoundEnd}
 use Rattle.body_meaning.specs.declared.frame.RoundEnd.TheVariants as round
@@ -75,6 +77,21 @@ module _ {D : Type 0} (drive : D → List Seat → ℕ → Drive D) (least : D �
       ap (λ (n : ℕ). view (record { me = n; seed = h.seed; routes = h.routes })) holds.made.me
       ∙ ap (λ (n : ℕ). view (record { me = h.controller; seed = n; routes = h.routes })) holds.seed
       ∙ ap (λ (r : Routes). view (record { me = h.controller; seed = v.limits.seed; routes = r })) holds.made.routes
+
+  -- it is one in which a scan of the machine may be done
+  module _ (before : LocalView) (begins : before ≡ begun h) (fits : FitsPlan v.trees v.topology) (good : IsLawful before) where
+    own : IsLocalOf v.trees h.machine (begun h)
+    own =
+        local_fits v.trees v.topology h.machine (begun h) fits machine-there
+        (subst (λ (n : ℕ). IsOfMachine S.ranges h.machine n) (sym holds.made.me) (of-one S least lawful h.controller (machine_of h.store) one))
+        holds.made.routes (subst IsLawful begins good)
+
+    pub may-scan : (serves : List Tree → Type 0) → serves v.trees → IsServedLocal serves h.machine before
+    may-scan serves served = record {
+      trees = v.trees;
+      served = served;
+      local = subst (IsLocalOf v.trees h.machine) (sym begins) own;
+    }
 
   abbrev scanned : Scan Ctl Message
   scanned = (rules_in drive v).scan h.controller (ctl_in h) h.cycle

@@ -35,7 +35,7 @@ fn sums<D: Driver>(alloc: Global, ended: &World<D>) -> Result<(Seq<Tally>, Accou
     ensures account { IfOk result (λ s. InWorld D.drive ended.now (λ w.
         s.1 ≡ account (rules_in D.drive ended.now) ended.now.journal w.places)) }
 {
-    let account = ended.account()?;
+    let account = ended.account();
     let mut tallies = Seq::new(alloc);
     tallies.push(ended.tally(WORKER))?;
     Ok((tallies, account))

@@ -51,6 +51,7 @@ pub(crate) fn scan<P: Protocol, D: Driver>(
     world.law();
     settings_are_lawful::<D>();
     let mut draft = draft(alloc, world, worker, held);
+    draft.law();
     let end = protocol.round(alloc, held.machine, &mut draft, held.fired, held.limit)?;
     let stalled = draft.stalled();
     let how = match end {

@@ -3,7 +3,7 @@ ghost use Rattle.std.specs.Prelude.{◌≡◌, ◌≤◌, ◌^◌, ◌*◌, leng
 ghost use Rattle.pair_table.specs.Prelude.{row_at, rows_at};
 
 use ruby_base::{NoMemory, Seq};
-use slicc_plan::{Row, Written};
+use slicc_plan::{Next, Row, Written};
 use std::alloc::Global;
 
 fn row(
@@ -22,7 +22,7 @@ fn row(
             Ok(Some(Row {
                 state,
                 event,
-                next: w.next.unwrap_or(state),
+                next: w.next.unwrap_or(Next::To(state)),
                 actions,
                 transition: number,
             }))

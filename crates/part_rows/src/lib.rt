@@ -12,7 +12,8 @@ mod symbols;
 mod tester;
 mod topologies;
 
-use ruby_outside::{Library, RowText};
+use example_texts::RowText;
+use ruby_outside::Library;
 
 /// Adds the rows of all parts, over a library with their folders.
 pub fn add_parts<L: Library>(rows: &mut RowText, library: &mut L) {

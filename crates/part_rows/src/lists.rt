@@ -1,6 +1,6 @@
 // Lists, added to the text of rows.
+use example_texts::RowText;
 use ruby_base::Text;
-use ruby_outside::RowText;
 use std::fmt;
 
 /// Adds values as they are displayed, each after a word.

@@ -1,7 +1,8 @@
 // Which protocols are the same: of each pair of files in the folders `pairs` and `symbols` whether they are one protocol, as they are where they
 // differ in blanks and comments alone, and not where a file includes what the other has. What is expected was worked out by hand.
 use crate::protocols::plan_in;
-use ruby_outside::{Library, RowText};
+use example_texts::RowText;
+use ruby_outside::Library;
 use slicc_plan::{Plan, same_plan};
 
 // A folder and a file in it.

@@ -1,7 +1,8 @@
 // The protocols whose files are read.
 use controller_rows::plan_of;
+use example_texts::RowText;
 use ruby_base::NoMemory;
-use ruby_outside::{Library, RowText};
+use ruby_outside::Library;
 use slicc_plan::Plan;
 use std::alloc::Global;
 

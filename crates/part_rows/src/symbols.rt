@@ -5,8 +5,9 @@ mod machines;
 mod types;
 
 use crate::protocols::plan_in;
+use example_texts::RowText;
 use list::add_list;
-use ruby_outside::{Library, RowText};
+use ruby_outside::Library;
 use ruby_symbols::Symbols;
 
 // The protocols, in the folder `symbols`.

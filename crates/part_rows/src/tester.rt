@@ -6,10 +6,10 @@ mod memory;
 mod play;
 mod seats;
 
+use example_texts::RowText;
 use memory::Script;
 use play::{Run, add_run};
 use ruby_base::NoMemory;
-use ruby_outside::RowText;
 
 // Runs of 40 requests, at one, two and three seats.
 fn add_draws(rows: &mut RowText, seed: u64) -> Result<(), NoMemory> {

@@ -4,7 +4,8 @@
 mod answer;
 mod table;
 
-use ruby_outside::{Got, Library, RowText};
+use example_texts::RowText;
+use ruby_outside::{Got, Library};
 use table::add_rows;
 
 // The file with the topologies, and the most bytes that it may have.

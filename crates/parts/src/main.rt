@@ -10,10 +10,11 @@
 mod worlds;
 
 use controller_rows::add_controllers;
+use example_texts::RowText;
 use part_rows::add_parts;
 use reading_rows::{add_options, add_outside, add_readings};
 use ruby_options::words;
-use ruby_outside::{FileLibrary, Library, RowText, Sink, StdSink, put};
+use ruby_outside::{FileLibrary, Library, Sink, StdSink, put};
 use scan_rows::add_scans;
 use std::alloc::Global;
 use std::process::ExitCode;

@@ -19,7 +19,7 @@ put_back frame p w = found own.Reference w >>= (λ x. with_place frame p x >>= w
 
 -- the place with what the call of this number makes of these values
 abbrev pub remade : Reading → ℕ → Frame → Place → List Value → Acting Ended
-remade s n frame p values = built_in s.setting n 0 values >>= put_back frame p
+remade s n frame p values = built_in s.kept n 0 values >>= put_back frame p
 
 -- the place with what a call of this name makes of its value
 abbrev pub remade_by : Reading → List ℕ → Frame → Place → Value → List Value → Acting Ended
@@ -44,7 +44,7 @@ module _ (s : Reading) (calls : Calls) where
   abbrev pub stalled_on : ℕ → Expr → Frame → Acting Ended
   stalled_on buffer address frame =
       value s calls frame address
-      >>= (λ t. built_in s.setting stall_call buffer (value_in t ∷ []) >> went_on frame)
+      >>= (λ t. built_in s.kept stall_call buffer (value_in t ∷ []) >> went_on frame)
 
   -- a call that changes what is at a place
   abbrev pub changed_at : List ℕ → List Expr → Frame → Place → Acting Ended

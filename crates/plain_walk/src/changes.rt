@@ -68,7 +68,7 @@ fn remade<T: Local>(
     ensures { DoesAs (ended frame.new) (remade (reading s.entry) n frame.old p.now values.now)
         result (T.view local.old) (T.view local.new) }
 {
-    let w = built_in(alloc, local, s.setting, n, 0, values)?;
+    let w = built_in(alloc, local, s.kept, n, 0, values)?;
     put_back(alloc, p, w, frame, local)
 }
 

@@ -119,7 +119,7 @@ fn stalled_on<T: Local, F: Fn(u16, Seq<Value>, &mut T) -> Result<Thing, Trouble>
 {
     let t = value(alloc, s, depth, calls, frame, address, local)?;
     let v = value_in(t);
-    built_in(alloc, local, s.setting, 59, buffer, array::from_ref(&v))?;
+    built_in(alloc, local, s.kept, 59, buffer, array::from_ref(&v))?;
     Ok(Flow::WentOn)
 }
 

@@ -25,13 +25,13 @@ use Rattle.built_in_acts.specs.declared.call.TableCall.{TableCall}
 use Rattle.built_in_acts.specs.declared.call.TableCall.TheVariants as table
 use Rattle.built_in_acts.specs.declared.call.ValueCall.{ValueCall}
 use Rattle.built_in_acts.specs.declared.call.ValueCall.TheVariants as plain
+use Rattle.built_in_acts.specs.declared.machines.KeptMachines.{KeptMachines}
 use Rattle.built_in_acts.specs.declared.machines.Placed.{Placed}
 use Rattle.built_in_acts.specs.declared.machines.Range.{Range}
-use Rattle.built_in_acts.specs.declared.call.CallSetting.{CallSetting}
-use Rattle.built_in_acts.specs.Prelude.{built_in, called, line_used, of_set, of_values, on_controller, on_machines, on_messages, on_table, referred, silent, told, used, call_at, calls, home_in, is_in, kept_number, place_of, placed_from, range_at, range_of, small, with_numbers, with_range, address_of_line, argument, block, controller, controllers, line_named, member, number}
+use Rattle.built_in_acts.specs.Prelude.{built_in, called, line_used, of_set, of_values, on_controller, on_machines, on_messages, on_table, silent, told, used, call_at, calls, home_in, is_in, kept_number, place_of, placed_from, range_at, range_of, small, with_numbers, with_range, address_of_line, argument, block, controller, controllers, line_named, member, number}
 use Rattle.protocol_meaning.specs.Prelude.{AreWithin, IsController, IsMember, IsWithin}
 use Rattle.protocol_meaning.proofs.Bounds.{Bounds}
-use Rattle.protocol_meaning.proofs.Setting.{SettingWithin}
+use Rattle.protocol_meaning.proofs.KeptBounds.{KeptWithin}
 use Rattle.protocol_meaning.proofs.Stay.{Stay, act_stays, done_stays, either_stays, ends_stays, found_stays, stops_stays, then_stays}
 
 -- The numbers of calls: none of those before the last one sets a state.
@@ -82,7 +82,7 @@ call_sets_none n below = by (slice_get calls n) (first_test sets_no_state calls 
     by None holds = tt
     by (Some c) holds = by_test c holds
 
-module _ (b : Bounds) (setting : CallSetting) (is : SettingWithin b setting) where
+module _ (b : Bounds) (kept : KeptMachines) (is : KeptWithin b kept) where
   abbrev pub ValueWithin : Option Value → Type 0
   ValueWithin o = IfSome o (IsWithin b.extent)
 
@@ -163,21 +163,21 @@ module _ (b : Bounds) (setting : CallSetting) (is : SettingWithin b setting) whe
   RangeWithin r = (1 ≤ r.count) × (r.first + r.count ≤ b.extent.controllers)
 
   abbrev IsNumber : ℕ → ℕ → Type 0
-  IsNumber place n = (k : ℕ) → slice_get b.values (setting.kept.first + place) ≡ Some (value.Int (pos k)) → n ≡ min k 255
+  IsNumber place n = (k : ℕ) → slice_get b.values (kept.first + place) ≡ Some (value.Int (pos k)) → n ≡ min k 255
 
   abbrev IsZero : ℕ → Type 0
   IsZero line = line ≡ 0
 
-  kept_is : (place : ℕ) (v : Value) → (setting.kept.table ≡ b.table → IsZero 0 → slice_get b.values (setting.kept.first + place) ≡ Some v) → IsNumber place (small (number v))
+  kept_is : (place : ℕ) (v : Value) → (kept.table ≡ b.table → IsZero 0 → slice_get b.values (kept.first + place) ≡ Some v) → IsNumber place (small (number v))
   kept_is place v kept k there =
       let both : Some v ≡ Some (value.Int (pos k)) = sym (kept is.table refl) ∙ there in
       let same : v ≡ value.Int (pos k) = cc both in
       ap (λ (x : Value). small (number x)) same
 
-  kept_stays : (place : ℕ) → Stay b (IsNumber place) (kept_number setting.kept place)
+  kept_stays : (place : ℕ) → Stay b (IsNumber place) (kept_number kept place)
   unfolding kept_number
   kept_stays place =
-      then_stays b (act_stays b (act.Get (record { table = setting.kept.table; line = 0 }) (setting.kept.first + place)) tt)
+      then_stays b (act_stays b (act.Get (record { table = kept.table; line = 0 }) (kept.first + place)) tt)
       (λ v answers. ends_stays b (kept_is place v answers.1))
 
   range_made : (first count f c : ℕ) → first ≡ min f 255 → count ≡ min c 255 → f + c ≤ b.extent.controllers → IfSome (range_of first count) RangeWithin
@@ -192,12 +192,12 @@ module _ (b : Bounds) (setting : CallSetting) (is : SettingWithin b setting) whe
       (some, omega arith))
       (λ _. tt)
 
-  range_stays : (machine : ℕ) → Stay b (λ o. IfSome o RangeWithin) (range_at setting.kept machine)
+  range_stays : (machine : ℕ) → Stay b (λ o. IfSome o RangeWithin) (range_at kept machine)
   unfolding range_at
   range_stays machine =
-      either_stays b (nat_lt machine setting.kept.count)
+      either_stays b (nat_lt machine kept.count)
       (λ below.
-      let has = is.ranges machine (ltb-true machine setting.kept.count below) in
+      let has = is.ranges machine (ltb-true machine kept.count below) in
       then_stays b (kept_stays (2 * machine))
       (λ first first_is. then_stays b (kept_stays (2 * machine + 1))
       (λ count count_is. ends_stays b (range_made first count has.first has.count (first_is has.first has.first_is) (count_is has.count has.count_is) has.within))))
@@ -222,7 +222,7 @@ module _ (b : Bounds) (setting : CallSetting) (is : SettingWithin b setting) whe
   abbrev PlacedWithin : Placed → Type 0
   PlacedWithin p = IsMember b.extent 0 p.machine
 
-  placed_stays : (controller n machine : ℕ) → machine + n ≤ setting.kept.count → Stay b PlacedWithin (placed_from setting.kept controller n machine)
+  placed_stays : (controller n machine : ℕ) → machine + n ≤ kept.count → Stay b PlacedWithin (placed_from kept controller n machine)
   unfolding placed_from
   placed_stays controller zero machine within = ends_stays b (omega arith)
   placed_stays controller (suc n) machine within =
@@ -231,9 +231,9 @@ module _ (b : Bounds) (setting : CallSetting) (is : SettingWithin b setting) whe
       (λ _. let all = is.machines in ends_stays b (omega arith))
       (λ _. placed_stays controller n (machine + 1) (omega arith)))
 
-  place_stays : (controller : ℕ) → Stay b PlacedWithin (place_of setting.kept controller)
+  place_stays : (controller : ℕ) → Stay b PlacedWithin (place_of kept controller)
   unfolding place_of
-  place_stays controller = placed_stays controller setting.kept.count 0 (omega arith)
+  place_stays controller = placed_stays controller kept.count 0 (omega arith)
 
   -- Calls.
 
@@ -254,9 +254,6 @@ module _ (b : Bounds) (setting : CallSetting) (is : SettingWithin b setting) whe
   messages_stay message.Wake on arguments = silent_stays (done_stays b (act.Wake (line_named (argument arguments 0))) tt)
   messages_stay message.WakeAll on arguments = silent_stays (done_stays b act.WakeAll tt)
 
-  reference_within : (on : ℕ) (r : Option Ref) → IsWithin b.extent (referred setting on r)
-  reference_within on r = cond_both (unwrap_or (slice_get setting.tbe_references on) false) (value.Tbe r) (value.Entry r) (IsWithin b.extent) (λ _. tt) (λ _. tt)
-
   used_stays : (on : ℕ) (v : Value) → Stay b (λ (x : Unit {0}). Unit {0}) (used on v)
   unfolding used
   used_stays on v = then_stays b {R = λ _. Unit {0}} (found_stays b _ (line_used v) (any (line_used v))) (λ line _. done_stays b (act.Touch on line) tt)
@@ -265,12 +262,12 @@ module _ (b : Bounds) (setting : CallSetting) (is : SettingWithin b setting) whe
       any None = tt
       any (Some n) = tt
 
-  table_stays : (c : TableCall) (on : ℕ) (arguments : List Value) → Calls-stay (on_table setting c on arguments)
-  table_stays table.Lookup on arguments = told_stays (referred setting on) (done_stays b (act.Lookup on (line_named (argument arguments 0))) tt) (λ r _. reference_within on r)
+  table_stays : (c : TableCall) (on : ℕ) (arguments : List Value) → Calls-stay (on_table c on arguments)
+  table_stays table.Lookup on arguments = told_stays value.Entry (done_stays b (act.Lookup on (line_named (argument arguments 0))) tt) (λ r _. tt)
   table_stays table.IsPresent on arguments = told_stays (λ r. value.Bool (is_some r)) (done_stays b (act.Lookup on (line_named (argument arguments 0))) tt) (λ r _. tt)
   table_stays table.HasPlace on arguments = told_stays value.Bool (done_stays b (act.Avail on (line_named (argument arguments 0))) tt) (λ x _. tt)
   table_stays table.Replaced on arguments = told_stays (λ line. value.Addr (address_of_line line)) (done_stays b (act.Probe on (line_named (argument arguments 0))) tt) (λ x _. tt)
-  table_stays table.Allocate on arguments = told_stays (λ r. referred setting on (Some r)) (done_stays b (act.Allocate on (line_named (argument arguments 0))) tt) (λ r _. reference_within on (Some r))
+  table_stays table.Allocate on arguments = told_stays (λ r. value.Entry (Some r)) (done_stays b (act.Allocate on (line_named (argument arguments 0))) tt) (λ r _. tt)
   table_stays table.AllocateTbe on arguments = silent_stays (done_stays b (act.Allocate on (line_named (argument arguments 0))) tt)
   table_stays table.Deallocate on arguments = silent_stays (done_stays b (act.Deallocate on (line_named (argument arguments 0))) tt)
   table_stays table.Use on arguments = silent_stays (used_stays on (argument arguments 0))
@@ -282,7 +279,7 @@ module _ (b : Bounds) (setting : CallSetting) (is : SettingWithin b setting) whe
   controller_stays own_call.Cycle arguments sets = told_stays (λ n. value.Int (pos n)) (done_stays b act.Now tt) (λ n _. tt)
   controller_stays own_call.Me arguments sets = told_stays value.Machine (act_stays b act.Me tt) (λ n here. here)
 
-  machines_stay : (c : MachineCall) (arguments : List Value) → AreWithin b.extent arguments → Calls-stay (on_machines setting.kept c arguments)
+  machines_stay : (c : MachineCall) (arguments : List Value) → AreWithin b.extent arguments → Calls-stay (on_machines kept c arguments)
   machines_stay machines.Broadcast arguments within =
       told_stays (λ r. value.Dest (with_range (controllers (argument arguments 0)) r)) (range_stays (member (argument arguments 1)))
       (λ r here. range_added (controllers (argument arguments 0)) r (controllers_within (argument arguments 0) (argument_within arguments 0 within)) here)
@@ -298,7 +295,7 @@ module _ (b : Bounds) (setting : CallSetting) (is : SettingWithin b setting) whe
   values_within plain.LineAddress arguments = tt
   values_within plain.Nothing arguments = tt
 
-  call_stays : (c : Call) (on : ℕ) (arguments : List Value) → SetsNoState c → AreWithin b.extent arguments → Calls-stay (called setting c on arguments)
+  call_stays : (c : Call) (on : ℕ) (arguments : List Value) → SetsNoState c → AreWithin b.extent arguments → Calls-stay (called kept c on arguments)
   call_stays (call.Message c) on arguments sets within = messages_stay c on arguments
   call_stays (call.Table c) on arguments sets within = table_stays c on arguments
   call_stays (call.Controller c) on arguments sets within = controller_stays c arguments sets
@@ -308,6 +305,6 @@ module _ (b : Bounds) (setting : CallSetting) (is : SettingWithin b setting) whe
   call_stays (call.Value c) on arguments sets within = ends_stays b (values_within c arguments)
   call_stays call.NotServed on arguments sets within = stops_stays b
 
-  pub built_in_stays : (n on : ℕ) (arguments : List Value) → n < 60 → AreWithin b.extent arguments → Stay b ValueWithin (built_in setting n on arguments)
+  pub built_in_stays : (n on : ℕ) (arguments : List Value) → n < 60 → AreWithin b.extent arguments → Stay b ValueWithin (built_in kept n on arguments)
   unfolding built_in
   built_in_stays n on arguments below within = call_stays (call_at n) on arguments (call_sets_none n below) within

@@ -385,7 +385,7 @@ module _ (s : Reading) (controllers : ℕ) (kept : List Value) (is : ReadingWith
   pub built_stays : (n on : ℕ) (arguments : List Value) → n < 60 → AreWithin E arguments → Things-stay (thing_built s n on arguments)
   unfolding thing_built
   built_stays n on arguments below within =
-      then_stays B (built_in_stays B s.setting is.setting n on arguments below within) (λ o here. ends_stays B (thing_of_within o here))
+      then_stays B (built_in_stays B s.kept is.kept n on arguments below within) (λ o here. ends_stays B (thing_of_within o here))
 
   among_within : (enumeration k : ℕ) (o : Option EnumerationSymbol) → slice_get s.symbols.enumerations enumeration ≡ o → IsMember E enumeration (member_among k o)
   among_within enumeration k None there = zero_member E enumeration
@@ -475,14 +475,14 @@ module _ (s : Reading) (controllers : ℕ) (kept : List Value) (is : ReadingWith
     entry_within : (a : About) → IfSome (cond (is_some s.machine.entry) (Some (thing.Value (plain.Entry a.entry))) None) Thing-within
     entry_within a = cond_both (is_some s.machine.entry) (Some (thing.Value (plain.Entry a.entry))) None (λ o. IfSome o Thing-within) (λ _. tt) (λ _. tt)
 
-    tbe_within : (a : About) → IfSome (cond (is_some s.machine.tbe) (Some (thing.Value (plain.Tbe a.tbe))) None) Thing-within
-    tbe_within a = cond_both (is_some s.machine.tbe) (Some (thing.Value (plain.Tbe a.tbe))) None (λ o. IfSome o Thing-within) (λ _. tt) (λ _. tt)
+    tbe_within : (a : About) → IfSome (cond (is_some s.machine.tbe) (Some (thing.Value (plain.Entry a.tbe))) None) Thing-within
+    tbe_within a = cond_both (is_some s.machine.tbe) (Some (thing.Value (plain.Entry a.tbe))) None (λ o. IfSome o Thing-within) (λ _. tt) (λ _. tt)
 
     about_within : (o : Option About) (text : List ℕ) → IfSome (thing_about s.machine o text) Thing-within
     about_within None text = tt
     about_within (Some a) text =
         let entry : Option Thing = cond (is_some s.machine.entry) (Some (thing.Value (plain.Entry a.entry))) None in
-        let tbe : Option Thing = cond (is_some s.machine.tbe) (Some (thing.Value (plain.Tbe a.tbe))) None in
+        let tbe : Option Thing = cond (is_some s.machine.tbe) (Some (thing.Value (plain.Entry a.tbe))) None in
         let last : Option Thing = cond (bytes_eq text (codes "tbe")) tbe None in
         cond_both (bytes_eq text (codes "address")) (Some (thing.Value (plain.Addr a.address))) (cond (bytes_eq text (codes "cache_entry")) entry last) (λ o. IfSome o Thing-within) (λ _. tt)
         (λ _. cond_both (bytes_eq text (codes "cache_entry")) entry last (λ o. IfSome o Thing-within) (λ _. entry_within a)

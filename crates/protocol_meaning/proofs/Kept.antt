@@ -117,15 +117,15 @@ module _ (trees : List Tree) (number : ℕ) (sizes : Sizes) (r : Reading) (setup
 
   kept_by : (tree : Option Machine) → read (option_map (machine_symbols trees number) tree) tree ≡ Some r
       → option_map (setup_in trees number sizes) tree ≡ Some setup → length sizes.machines ≡ length (machines_of trees)
-      → KeepsRanges r.setting.kept setup sizes.machines
+      → KeepsRanges r.kept setup sizes.machines
   kept_by None reads is as_many = absurd (cc is)
   kept_by (Some m) reads is as_many =
       let as_read : reading_with (symbols_of trees) number (machine_symbols trees number m) m ≡ r = cc reads in
       let as_set : setup_in trees number sizes m ≡ setup = cc is in
-      subst₂ (λ (q : Reading) (s : MachineSetup). KeepsRanges q.setting.kept s sizes.machines) as_read as_set (keeps trees number sizes m as_many)
+      subst₂ (λ (q : Reading) (s : MachineSetup). KeepsRanges q.kept s sizes.machines) as_read as_set (keeps trees number sizes m as_many)
 
   pub ranges_are_kept : reading_of trees number ≡ Some r → setup_of trees number sizes ≡ Some setup → length sizes.machines ≡ length (machines_of trees)
-      → KeepsRanges r.setting.kept setup sizes.machines
+      → KeepsRanges r.kept setup sizes.machines
   ranges_are_kept reads =
       kept_by (slice_get (machines_of trees) number)
       (ap (λ (m : Option MachineSymbols). read m (slice_get (machines_of trees) number)) (sym (symbols_at trees number)) ∙ reads)

@@ -6,6 +6,7 @@ pub mod Rounds
 pub mod Fired
 pub mod Left
 pub mod Later
+pub mod FramedMeanings
 pub mod Needs
 pub mod Bounds
 pub mod Bodies
@@ -13,7 +14,7 @@ pub mod Tables
 pub mod Mail
 pub mod Acts
 pub mod Stay
-pub mod Setting
+pub mod KeptBounds
 pub mod BuiltIn
 pub mod Reading
 pub mod Expressions
@@ -28,6 +29,7 @@ pub mod Machines
 pub mod Instance
 pub mod Buffers
 pub mod ByNumber
+pub mod Locals
 pub mod Counts
 pub mod Fit
 pub mod Lines

@@ -19,6 +19,7 @@ use Rattle.ruby_value.specs.declared.value.Value.{Value}
 use Rattle.ruby_value.specs.declared.value.Value.TheVariants as value
 use Rattle.ruby_symbols.specs.declared.machine.MachineSymbols.{MachineSymbols}
 use Rattle.ruby_symbols.specs.declared.machine.TableSort.{TableSort}
+use Rattle.ruby_symbols.specs.declared.machine.Next.TheVariants.{To}
 use Rattle.ruby_symbols.specs.declared.machine.TransitionSymbol.{TransitionSymbol}
 use Rattle.ruby_symbols.specs.declared.types.FieldSymbol.{FieldSymbol}
 use Rattle.slicc_ast.specs.declared.tree.declaration.Member.{Member}
@@ -30,12 +31,14 @@ use Rattle.slicc_ast.specs.declared.tree.item.Tree.{Tree}
 use Rattle.slicc_ast.specs.declared.tree.machine.Literal.{Literal}
 use Rattle.slicc_ast.specs.declared.tree.machine.Literal.TheVariants.{Number, Minus, Quoted, True}
 use Rattle.slicc_ast.specs.declared.tree.machine.Machine.{Machine}
+use Rattle.slicc_ast.specs.declared.tree.machine.NextState.{NextState}
+use Rattle.slicc_ast.specs.declared.tree.machine.NextState.TheVariants.{Named, Asked}
 use Rattle.slicc_ast.specs.declared.tree.machine.Transition.{Transition}
 use Rattle.slicc_ast.specs.declared.tree.name.Name.{Name}
 use Rattle.slicc_plan.specs.declared.broken.Broken.{Broken}
 use Rattle.slicc_plan.specs.declared.broken.Rule.TheVariants.{NoStates}
 use Rattle.slicc_plan.specs.declared.built_in.BuiltInType.TheVariants.{Cycles}
-use Rattle.slicc_plan.specs.Prelude.{IsAccepted, large_bodies, permissions, is_same_scope, call_circles, Declaration, machine, states, parameter, object, symbol, state, member, within, global_declarations, is_named, machine_declarations, machines_of, initial_value, event_members, is_enumeration, is_events, is_states, members_in, members_of_found, state_members, is_empty, missing_machine, missing_parts, missing_parts_in, literal_value, value_in, value_of_kind, values_of, written_value, function_named, includes, in_each_from, next_number, number_among, numbers_among, transitions_of, with_number, written, wrong_networks, reading_changes, default_state, first_state, opening_value, parameter_table, range_values, set_value, setup_in, table_of_lines, table_setup, table_size, tables_from, values_from, wrong_state_functions, machines_from, symbols_of, structure_symbols, machine_symbols, number_of_found, permission_number, permissions_found, transition_symbol, line_structure, tables_of, ScopedDeclaration, declared_number, declares, is_known_as, made_in, no_structure, plain_kind, shared_pairs, KnownType, enumerated, is_built_in, type_in}
+use Rattle.slicc_plan.specs.Prelude.{IsAccepted, large_bodies, permissions, is_same_scope, call_circles, Declaration, machine, states, parameter, object, symbol, state, member, within, global_declarations, is_named, machine_declarations, machines_of, initial_value, event_members, is_enumeration, is_events, is_states, members_in, members_of_found, state_members, is_empty, missing_machine, missing_parts, unanswered_stars, missing_parts_in, literal_value, value_in, value_of_kind, values_of, written_value, function_named, includes, in_each_from, next_number, number_among, numbers_among, transitions_of, with_number, written, wrong_networks, reading_changes, default_state, first_state, opening_value, parameter_table, range_values, set_value, setup_in, table_of_lines, table_setup, table_size, tables_from, values_from, wrong_state_functions, machines_from, symbols_of, structure_symbols, machine_symbols, number_of_found, permission_number, permissions_found, transition_symbol, line_structure, tables_of, ScopedDeclaration, declared_number, declares, is_known_as, made_in, no_structure, plain_kind, shared_pairs, KnownType, enumerated, is_built_in, type_in}
 use Rattle.slicc_plan.specs.Declarations.{enumeration}
 use Rattle.slicc_plan.specs.FieldTypes.{field_of}
 use Rattle.slicc_plan.specs.Machines.{names_in as names_written}
@@ -53,9 +56,9 @@ use Rattle.slicc_plan.proofs.Machines.{symbols_counted}
 use Rattle.slicc_plan.proofs.Pairs.{positions_below}
 use Rattle.slicc_plan.proofs.There.{There, found_passes, get_right, in_machine, machine_there, there_found}
 use Rattle.protocol_meaning.proofs.Bounds.{Bounds}
-use Rattle.protocol_meaning.proofs.Reading.{ReadingWithin, TransitionWithin, bounds_of}
+use Rattle.protocol_meaning.proofs.Reading.{NextWithin, ReadingWithin, TransitionWithin, bounds_of}
 use Rattle.protocol_meaning.proofs.OfMachine.{MachineWithin}
-use Rattle.protocol_meaning.proofs.Setting.{HasRange}
+use Rattle.protocol_meaning.proofs.KeptBounds.{HasRange}
 use Rattle.protocol_meaning.proofs.Declared.{L, as_enumeration, counted, listed, names_in, text_in}
 use Rattle.protocol_meaning.proofs.Symbols.{Field-within, KindWithin, field_within, kind_within, structures_within}
 
@@ -182,11 +185,12 @@ module _ (trees : List Tree) (accepted : IsAccepted trees) (controllers : ℕ) (
       unfolding machine_symbols
       has_events more = found_count is_events events_are (find is_events (machine_declarations m)) refl more
 
-      next_within : (o : Option Name) → IfSome (next_number m o) (IsMember E S.states)
+      next_within : (o : Option NextState) → IfSome (next_number m o) (NextWithin E S.states)
       next_within None = tt
-      next_within (Some n) = by (number_among (state_members m) n) (numbered_below (state_members m) n)
+      next_within (Some (Asked span)) = tt
+      next_within (Some (Named n)) = by (number_among (state_members m) n) (numbered_below (state_members m) n)
         where
-          by : (o : Option ℕ) → IfSome o (λ k. k < length (state_members m)) → IfSome o (IsMember E S.states)
+          by : (o : Option ℕ) → IfSome o (λ k. k < length (state_members m)) → IfSome (option_map (λ k. To k) o) (NextWithin E S.states)
           by None below = tt
           by (Some k) below = state_within k below
 
@@ -352,7 +356,10 @@ parts_of : (trees : List Tree) → IsAccepted trees → (k : ℕ) (m : Machine) 
 parts_of trees accepted k m at =
     let none = right_none
     (call_circles trees ++ large_bodies trees ++ reading_changes trees ++ shared_pairs trees ++ wrong_state_functions trees ++ wrong_networks trees ++ missing_machine trees)
-    (missing_parts trees) accepted.of_machines in
+    (missing_parts trees)
+    (left_none
+    (call_circles trees ++ large_bodies trees ++ reading_changes trees ++ shared_pairs trees ++ wrong_state_functions trees ++ wrong_networks trees ++ missing_machine trees ++ missing_parts trees)
+    (unanswered_stars trees) accepted.of_machines) in
     let here = none_in_each missing_parts_in 0 (machines_of trees) k m none at in
     parts_there here.0 m here.1
 
@@ -415,7 +422,7 @@ module _ (trees : List Tree) (accepted : IsAccepted trees) (t : Topology) (fit :
     ranges_counted : length (ranges_of t) ≡ length (machines_of trees)
     ranges_counted = let each = fit.routes.numbers.each_machine in each ∙ setups_counted trees t.sizes many
 
-    keeps : KeepsRanges read.setting.kept setup own.machines
+    keeps : KeepsRanges read.kept setup own.machines
     keeps =
         ranges_are_kept trees k own read setup reads_it (ap (option_map (setup_in trees k own)) at)
         (ap (λ (rs : List (ℕ × ℕ)). length rs) ranges_are ∙ ranges_counted)
@@ -436,14 +443,14 @@ module _ (trees : List Tree) (accepted : IsAccepted trees) (t : Topology) (fit :
     abbrev bounds : Bounds
     bounds = bounds_of read total last.initial
 
-    value_at : (place : ℕ) (v : Value) → kept_value read.setting.kept setup place ≡ Some v → slice_get last.initial (read.setting.kept.first + place) ≡ Some v
-    value_at place v is = sym (ap (λ (o : Option TableSetup). option_and_then (λ (x : TableSetup). slice_get x.initial (read.setting.kept.first + place)) o) last_is) ∙ is
+    value_at : (place : ℕ) (v : Value) → kept_value read.kept setup place ≡ Some v → slice_get last.initial (read.kept.first + place) ≡ Some v
+    value_at place v is = sym (ap (λ (o : Option TableSetup). option_and_then (λ (x : TableSetup). slice_get x.initial (read.kept.first + place)) o) last_is) ∙ is
 
-    has_range : (j : ℕ) → j < read.setting.kept.count → HasRange bounds read.setting j
+    has_range : (j : ℕ) → j < read.kept.count → HasRange bounds read.kept j
     has_range j below =
         let all = keeps.all in
         let range = some_at own.machines j (omega (arith, below, all)) in
-        let here = if_some (IsKept read.setting.kept setup j) (slice_get own.machines j) range.0 range.1 (keeps.each j) in
+        let here = if_some (IsKept read.kept setup j) (slice_get own.machines j) range.0 range.1 (keeps.each j) in
         let fits = range_fits 0 total (ranges_of t) j range.0 numbered (ap (λ (rs : List (ℕ × ℕ)). slice_get rs j) (sym ranges_are) ∙ range.1) in
         record {
           first = range.0.0;
@@ -458,7 +465,7 @@ module _ (trees : List Tree) (accepted : IsAccepted trees) (t : Topology) (fit :
 
     reading_within : ReadingWithin read total last.initial
     reading_within = record {
-      setting = record {
+      kept = record {
         table = refl;
         machines = (let first = machines_counted trees accepted total some in let second = symbols_counted trees in omega (arith, first, second));
         ranges = has_range;

@@ -1,10 +1,13 @@
 -- What a scan does stays within bounds, and what it answers is within them.
-use Rattle.std.proofs.Common.{◌≡◌, ◌||◌, ◌==◌, ◌+◌, ℕ, Bool, true, false, List, [], ◌∷◌, All, IfSome, Option, None, Some, Result, Ok, Err, find, nat_le, refl, subst, slice_get, unwrap_or}
+use Rattle.std.proofs.Common.{◌≡◌, ◌||◌, ◌==◌, ◌+◌, ℕ, Bool, true, false, List, [], ◌∷◌, All, IfSome, Option, None, Some, Result, Ok, Err, find, nat_le, refl, subst, slice_get}
 use Rattle.std.proofs.lemmas.Bool.{and_parts, cond_both, eqb-true}
 use Rattle.std.proofs.lemmas.List.Elements.{All-cons, All-head, All-nil, All-tail}
 use Rattle.ruby_value.specs.declared.fault.Fault.{Fault}
 use Rattle.ruby_value.specs.declared.value.Value.{Value}
+use Rattle.ruby_value.specs.declared.value.Value.TheVariants as value
 use Rattle.ruby_value.specs.Prelude.{line_of}
+use Rattle.ruby_symbols.specs.declared.machine.Next.{Next}
+use Rattle.ruby_symbols.specs.declared.machine.Next.TheVariants.{To, Asked}
 use Rattle.ruby_symbols.specs.declared.machine.PortSymbol.{PortSymbol}
 use Rattle.ruby_symbols.specs.declared.machine.TableSymbol.{TableSymbol}
 use Rattle.ruby_symbols.specs.declared.machine.TransitionSymbol.{TransitionSymbol}
@@ -19,7 +22,7 @@ use Rattle.body_meaning.specs.declared.frame.About.{About}
 use Rattle.body_meaning.specs.declared.frame.Flow.{Flow}
 use Rattle.body_meaning.specs.declared.frame.Flow.TheVariants.{WentOn, Returned, Triggered}
 use Rattle.body_meaning.specs.declared.thing.Trigger.{Trigger}
-use Rattle.body_meaning.specs.Prelude.{each, Reading, value_in, body_of_action, need, after_port, by_outcome, by_try, left_idle, port_block, port_done, port_tried, ports_tried, scan, unless_fired, about, action_done, arguments_for, fired, found_tried, is_among, is_for, is_short, is_stall_among, known, permission_set, row_tried, state_argument, state_by, state_set, table_short, try, waiting, Trying, ends, stops, acts, looks_up, follow_scan, nothing_known, run_scan, stop_at, then_try, with_known}
+use Rattle.body_meaning.specs.Prelude.{each, Reading, value_in, body_of_action, need, after_port, by_outcome, by_try, left_idle, port_block, port_done, port_tried, ports_tried, scan, unless_fired, about, action_done, arguments_for, fired, found_tried, is_among, is_for, is_short, is_stall_among, known, next_asked, next_state, permission_set, row_tried, state_answered, state_argument, state_by, state_set, table_short, try, waiting, Trying, ends, stops, acts, looks_up, follow_scan, nothing_known, run_scan, stop_at, then_try, with_known}
 use Rattle.body_meaning.specs.declared.frame.RoundEnd.TheVariants as round
 use Rattle.body_meaning.specs.declared.frame.Known.{Known}
 use Rattle.body_meaning.specs.declared.frame.Tried.{Tried}
@@ -27,13 +30,13 @@ use Rattle.body_meaning.specs.declared.frame.Tried.TheVariants.{Waits, Fires}
 use Rattle.protocol_meaning.specs.Prelude.{AreWithin, Extent, IsMember, IsWithin}
 use Rattle.protocol_meaning.proofs.Bounds.{Bounds, ViewWithin}
 use Rattle.protocol_meaning.proofs.Bodies.{AnswersWithin, AsksWithin, EndsWithin, Stays}
-use Rattle.protocol_meaning.proofs.Reading.{FlowWithin, ReadingWithin, TransitionWithin, bounds_of, extent_of}
+use Rattle.protocol_meaning.proofs.Reading.{FlowWithin, NextWithin, ReadingWithin, TransitionWithin, bounds_of, extent_of}
 use Rattle.protocol_meaning.proofs.Scan.{NoteWithin, ScanWithin, StopWithin}
 use Rattle.protocol_meaning.proofs.Acts.{does_keeps}
 use Rattle.protocol_meaning.proofs.Expressions.{as_member_within, zero_member}
 use Rattle.protocol_meaning.proofs.Mail.{again_keeps}
 use Rattle.protocol_meaning.proofs.Statements.{block_done_stays, calls_stay, no_names}
-use Rattle.protocol_meaning.proofs.Stay.{Stay, act_stays, and_stays, done_stays, either_stays, ends_stays, found_stays, then_stays}
+use Rattle.protocol_meaning.proofs.Stay.{Stay, act_stays, and_stays, done_stays, either_stays, ends_stays, found_stays, stops_stays, then_stays}
 
 -- Scans as data.
 
@@ -131,11 +134,24 @@ module _ (s : Reading) (controllers : ℕ) (kept : List Value) (is : ReadingWith
   arguments_within a state [] here = All-nil (IsWithin Es)
   arguments_within a state (x ∷ xs) here = All-cons (IsWithin Es) (state_argument s.machine a state x) (arguments_for s.machine a state xs) (argument_within a state x here) (arguments_within a state xs here)
 
+  answered_stays : (k : ℕ) (arguments : List Value) → AreWithin Es arguments → Stay Bs Of-state (state_answered s k arguments)
+  answered_stays k arguments within =
+      then_stays Bs (calls_stay s controllers kept is k arguments within) (λ t _. ends_stays Bs (as_member_within s controllers kept is s.machine.states (value_in t)))
+
   read_by : (a : About) (function : Option ℕ) → Stay Bs Of-state (state_by s a function)
   read_by a None = act_stays Bs (act.State (line_of a.address)) tt
   read_by a (Some k) =
-      then_stays Bs (calls_stay s controllers kept is k (arguments_for s.machine a 0 (get_state_arguments s.machine)) (arguments_within a 0 (get_state_arguments s.machine) (zero_member Es s.machine.states)))
-      (λ t _. ends_stays Bs (as_member_within s controllers kept is s.machine.states (value_in t)))
+      answered_stays k (arguments_for s.machine a 0 (get_state_arguments s.machine)) (arguments_within a 0 (get_state_arguments s.machine) (zero_member Es s.machine.states))
+
+  asked_stays : (address : ℕ) (function : Option ℕ) → Stay Bs Of-state (next_asked s address function)
+  asked_stays address None = stops_stays Bs
+  asked_stays address (Some k) =
+      answered_stays k (value.Addr address ∷ []) (All-cons (IsWithin Es) (value.Addr address) [] tt (All-nil (IsWithin Es)))
+
+  next_stays : (address state : ℕ) (o : Option Next) → IfSome o (NextWithin Es s.machine.states) → Of-state state → Stay Bs Of-state (next_state s address state o)
+  next_stays address state None within here = ends_stays Bs here
+  next_stays address state (Some (To next)) within here = ends_stays Bs within
+  next_stays address state (Some Asked) within here = asked_stays address s.machine.get_next_state
 
   set_stays : (a : About) (next : ℕ) (function : Option ℕ) → Of-state next → Stay Bs Nothing-asked (state_set s a next function)
   set_stays a next None here = done_stays Bs (act.SetState (line_of a.address) next) here
@@ -185,16 +201,12 @@ module _ (s : Reading) (controllers : ℕ) (kept : List Value) (is : ReadingWith
       (λ a _. and_stays Bs (set_stays a next s.machine.set_state to)
       (and_stays Bs (permission_stays a next s.machine.set_permission to) (ends_stays Bs (record { state = from; event = event; next = to }))))
 
-  next_within : (o : Option ℕ) (state : ℕ) → IfSome o Of-state → Of-state state → Of-state (unwrap_or o state)
-  next_within None state next here = here
-  next_within (Some n) state next here = next
-
   row_stays : (t : Trigger) (state : ℕ) (row : TransitionSymbol) → Of-event t.event → Of-state state → TransitionWithin Es s.machine.states s.machine.events row → Stay Bs Of-try (row_tried s t state row)
   row_stays t state row event from within =
       then_stays Bs (short_stays (need s row.actions) 0 s.machine.tables)
       (λ short _. either_stays Bs short (λ _. waiting_stays)
       (λ _. either_stays Bs (is_stall_among row.actions s.machine.stall) (λ _. waiting_stays)
-      (λ _. fired_stays t state (unwrap_or row.next state) row event from (next_within row.next state within.next from))))
+      (λ _. then_stays Bs (next_stays t.address state row.next within.next from) (λ next to. fired_stays t state next row event from to))))
 
   read_known : (t : Trigger) → Of-event t.event → (f : Fault) → Of-stop (stop_at (known t None) f)
   read_known t event f = record { event = event; state = tt }

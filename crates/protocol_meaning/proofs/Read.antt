@@ -5,7 +5,7 @@ use Rattle.std.specs.List.{All}
 use Rattle.std.proofs.lemmas.List.Elements.{All-weaker}
 use Rattle.std.proofs.lemmas.List.FromFn.{length-map-range_with_len}
 use Rattle.slicc_ast.specs.declared.tree.item.Tree.{Tree}
-use Rattle.slicc_plan.specs.Prelude.{IsAccepted, large_bodies, call_circles, machines_of, missing_machine, missing_parts, wrong_networks, reading_changes, wrong_state_functions, symbols_of, shared_pairs}
+use Rattle.slicc_plan.specs.Prelude.{IsAccepted, large_bodies, call_circles, machines_of, missing_machine, missing_parts, unanswered_stars, wrong_networks, reading_changes, wrong_state_functions, symbols_of, shared_pairs}
 use Rattle.slicc_plan.proofs.Room.{left_none, right_none}
 use Rattle.ruby_topology.specs.declared.forms.Statement.{Statement}
 use Rattle.ruby_topology.specs.declared.topology.Seat.{Seat}
@@ -23,7 +23,8 @@ pub no_wrong_networks : (trees : List Tree) → IsAccepted trees → wrong_netwo
 no_wrong_networks trees h =
     right_none (call_circles trees ++ large_bodies trees ++ reading_changes trees ++ shared_pairs trees ++ wrong_state_functions trees) (wrong_networks trees)
     (left_none (call_circles trees ++ large_bodies trees ++ reading_changes trees ++ shared_pairs trees ++ wrong_state_functions trees ++ wrong_networks trees) (missing_machine trees)
-    (left_none (call_circles trees ++ large_bodies trees ++ reading_changes trees ++ shared_pairs trees ++ wrong_state_functions trees ++ wrong_networks trees ++ missing_machine trees) (missing_parts trees) h.of_machines))
+    (left_none (call_circles trees ++ large_bodies trees ++ reading_changes trees ++ shared_pairs trees ++ wrong_state_functions trees ++ wrong_networks trees ++ missing_machine trees) (missing_parts trees)
+    (left_none (call_circles trees ++ large_bodies trees ++ reading_changes trees ++ shared_pairs trees ++ wrong_state_functions trees ++ wrong_networks trees ++ missing_machine trees ++ missing_parts trees) (unanswered_stars trees) h.of_machines)))
 
 said_fits : (trees : List Tree) (t : Topology) (said : List Statement) → AreLawful trees → wrong_networks trees ≡ [] → AreKnown (symbols_of trees) said → IsTopologySaid (symbols_of trees) said t → FitsPlan trees t
 said_fits trees t said laws kept known top =

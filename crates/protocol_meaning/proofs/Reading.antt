@@ -1,9 +1,11 @@
 -- What bodies are read by is within an extent: the values that fields begin with, the permissions of states, the states and events of
--- written transitions, and what the built-in calls go by. And what a body has at a place in it: values, messages and triggers.
+-- written transitions, and where the machines' numbers are kept. And what a body has at a place in it: values, messages and triggers.
 use Rattle.std.specs.Prelude.{ℕ, IfSome, List, length, slice_get}
 use Rattle.std.specs.List.{All}
 use Rattle.ruby_value.specs.declared.value.Value.{Value}
 use Rattle.ruby_symbols.specs.declared.machine.MachineSymbols.{MachineSymbols}
+use Rattle.ruby_symbols.specs.declared.machine.Next.{Next}
+use Rattle.ruby_symbols.specs.declared.machine.Next.TheVariants.{To, Asked}
 use Rattle.ruby_symbols.specs.declared.machine.TransitionSymbol.{TransitionSymbol}
 use Rattle.ruby_symbols.specs.declared.types.FieldSymbol.{FieldSymbol}
 use Rattle.ruby_symbols.specs.declared.types.StructureSymbol.{StructureSymbol}
@@ -16,7 +18,7 @@ use Rattle.body_meaning.specs.declared.thing.Thing.TheVariants as thing
 use Rattle.body_meaning.specs.Prelude.{Reading}
 use Rattle.protocol_meaning.specs.Prelude.{Extent, AreWithin, IsMember, IsWithin}
 use Rattle.protocol_meaning.proofs.Bounds.{Bounds}
-use Rattle.protocol_meaning.proofs.Setting.{SettingWithin}
+use Rattle.protocol_meaning.proofs.KeptBounds.{KeptWithin}
 
 -- of a run with n controllers, of which those of the machine have these values in their table of values
 abbrev pub extent_of : Reading → (controllers : ℕ) → Extent
@@ -30,14 +32,19 @@ bounds_of s controllers values = record {
   values = values;
 }
 
+-- what a transition names as the state after it, in a machine with this enumeration of states
+abbrev pub NextWithin : Extent → (states : ℕ) → Next → Type 0
+NextWithin e states (To state) = IsMember e states state
+NextWithin e states Asked = Unit {0}
+
 -- a written transition of a machine with these enumerations of states and events
 pub record TransitionWithin (e : Extent) (states events : ℕ) (t : TransitionSymbol) : Type 0 where
   pub from : All (IsMember e states) t.states
   pub on : All (IsMember e events) t.events
-  pub next : IfSome t.next (IsMember e states)
+  pub next : IfSome t.next (NextWithin e states)
 
 pub record ReadingWithin (s : Reading) (controllers : ℕ) (values : List Value) : Type 0 where
-  pub setting : SettingWithin (bounds_of s controllers values) s.setting
+  pub kept : KeptWithin (bounds_of s controllers values) s.kept
   pub structures :
       (structure : ℕ) → IfSome (slice_get s.symbols.structures structure)
       (λ (t : StructureSymbol). All (λ (f : FieldSymbol). IsWithin (extent_of s controllers) f.initial) t.fields)

@@ -197,7 +197,7 @@ module _ (s : Reading) (controllers : ℕ) (kept : List Value) (is : ReadingWith
     stalled_stays port address frame within =
         then_stays Bs {R = λ _. Unit {0}} (found_stays Bs _ (port_named s.machine port) (any (port_named s.machine port)))
         (λ buffer _. then_stays Bs (gives frame address within)
-        (λ t here. and_stays Bs (built_in_stays Bs s.setting is.setting stall_call buffer (value_in t ∷ []) (lit< tt) (All-cons (IsWithin Es) (value_in t) [] (given t here) (All-nil (IsWithin Es))))
+        (λ t here. and_stays Bs (built_in_stays Bs s.kept is.kept stall_call buffer (value_in t ∷ []) (lit< tt) (All-cons (IsWithin Es) (value_in t) [] (given t here) (All-nil (IsWithin Es))))
         (went_stays frame within)))
 
     -- Places: none is a field of the table of values.
@@ -313,9 +313,9 @@ module _ (s : Reading) (controllers : ℕ) (kept : List Value) (is : ReadingWith
 
       -- what a call makes of the place that it changes
       written_stays : (p : Place) (n : ℕ) (vs : List Value) → Of-place p → n < 60 → AreWithin Es vs
-          → Ends-stay (built_in s.setting n 0 vs >>= (λ w. found own.Reference w >>= (λ x. with_place frame p x >>= went_on)))
+          → Ends-stay (built_in s.kept n 0 vs >>= (λ w. found own.Reference w >>= (λ x. with_place frame p x >>= went_on)))
       written_stays p n vs other below all =
-          then_stays Bs (built_in_stays Bs s.setting is.setting n 0 vs below all)
+          then_stays Bs (built_in_stays Bs s.kept is.kept n 0 vs below all)
           (λ w here. then_stays Bs (found_stays Bs _ w here)
           (λ x at. then_stays Bs (write_stays p x other at) (λ f so. went_stays f so)))
 

@@ -11,4 +11,5 @@ pub mod Runs
 pub mod FitsPlan
 pub mod Seats
 pub mod Setups
+pub mod Locals
 pub mod Prelude

@@ -68,7 +68,7 @@ pub fn calls_find_the_machines()
         (setup : MachineSetup)
         → reading_of trees machine ≡ Some r → setup_of trees machine sizes ≡ Some setup
         → length sizes.machines ≡ length (machines_of trees)
-        → KeepsRanges r.setting.kept setup sizes.machines }
+        → KeepsRanges r.kept setup sizes.machines }
 {}
 
 /// A transition of an accepted protocol needs as many free lines of a table as a try of it asks for, all by the numbers of symbols.

@@ -6,12 +6,14 @@
 #![tactic(auto)]
 
 mod every_scan;
+mod framed;
 mod laws;
 mod machine_setups;
 mod protocol;
 mod record;
 
 pub use every_scan::{scans_keep_what_holds, what_comes_later_changes_no_scan};
+pub use framed::meanings_are_framed;
 pub use laws::{
     calls_find_the_machines, fired_rounds_stay, meanings_are_lawful, needs_are_those_of_tries,
     plain_topologies_fit, rounds_are_scans, settings_are_lawful, topologies_fit,

@@ -1,6 +1,7 @@
 ghost use Rattle.std.specs.Prelude.{List};
 ghost use Rattle.slicc_ast.specs.declared.tree.item.Tree.{Tree};
 ghost use Rattle.body_meaning.specs.Prelude.{IsRoundOf};
+ghost use Rattle.protocol_meaning.specs.Locals.{IsServedLocal};
 ghost use Rattle.protocol_meaning.specs.Meaning.{scan_of};
 
 use body_meaning::RoundEnd;
@@ -13,7 +14,8 @@ pub trait Protocol {
     ghost serves: { Self → List Tree → Type 0 };
 
     /// One scan of a controller of this machine, in its local. The controller has fired `fired` transitions in this cycle and may
-    /// fire `limit`. What the scan leaves of the local counts only where it has fired, and for whether a transition was stalled.
+    /// fire `limit`. What the scan leaves of the local counts only where it has fired, and for whether a transition was stalled. The
+    /// machine is one of a protocol that is served, and the local a lawful one of a controller of that machine there.
     fn round<T: Local>(
         &self,
         alloc: Global,
@@ -22,6 +24,7 @@ pub trait Protocol {
         fired: u64,
         limit: u64,
     ) -> Result<RoundEnd, NoMemory>
+        requires { IsServedLocal (serves self.now) machine (T.view local.old) }
         ensures { (trees : List Tree) → serves self.now trees
             → IsRoundOf (scan_of trees machine limit fired (T.view local.old)) result
             (T.view local.new) (T.view local.old) };

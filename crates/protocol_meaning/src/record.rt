@@ -1,7 +1,7 @@
 use ruby_base::Seq;
 use ruby_options::Options;
 use ruby_topology::Topology;
-use run_journal::{Account, Entry, Event, Final, Tally, Verdict};
+use run_journal::{Account, Event, Final, Journal, Tally, Verdict};
 use slicc_plan::Plan;
 
 /// A whole run: what was run, what happened, and how it ended.
@@ -10,7 +10,7 @@ pub struct RunRecord {
     pub topology: Topology,
     pub options: Options,
     pub history: Seq<Event>,
-    pub journal: Seq<Entry>,
+    pub journal: Journal,
     /// The final states, by ascending controller and address.
     pub finals: Seq<Final>,
     pub account: Account,

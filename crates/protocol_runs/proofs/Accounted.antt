@@ -1,5 +1,5 @@
 -- A turn sends the driver's numbers, and each comes into an inbox; and so a run accounts for each message.
-use Rattle.std.proofs.Common.{◌≡◌, ◌≢◌, ◌≤◌, ◌⊎◌, inl, inr, ◌+◌, ◌&&◌, ℕ, suc, Bool, true, false, not, Option, None, Some, List, [], ◌∷◌, ◌++◌, length, map, refl, sym, ◌∙◌, ap, subst, slice_get, eqb, ltb, add-zero, arith}
+use Rattle.std.proofs.Common.{◌≡◌, ◌≢◌, ◌≤◌, ◌⊎◌, inl, inr, ◌+◌, ◌&&◌, ℕ, zero, suc, Bool, true, false, not, Option, None, Some, List, [], ◌∷◌, ◌++◌, length, map, refl, sym, ◌∙◌, ap, subst, slice_get, eqb, ltb, add-zero, arith}
 use Rattle.std.specs.Option.{option_to_list, option_map}
 use Rattle.std.proofs.lemmas.Bool.{le-ltb}
 use Rattle.std.proofs.lemmas.Bool.Decides.{eqb_tells}
@@ -16,7 +16,7 @@ use Rattle.protocol_runs.specs.Prelude.{Rules, DriverTurn, Mailed, Place, World,
 use Rattle.protocol_runs.proofs.Outcomes.{change-outcome}
 use Rattle.protocol_runs.proofs.Runs.{hold-along}
 use Rattle.protocol_runs.proofs.Places.{paired-map, changed, changed-length}
-use Rattle.protocol_runs.proofs.Fitting.{WorldFits, opening-fits, change-fits, asked-in, at-controller, controllers_in, served_places, served-grown}
+use Rattle.protocol_runs.proofs.Fitting.{WorldFits, opening-fits, change-fits, world-fits, asked-in, at-controller, controllers_in, served_places, served-grown}
 use Rattle.protocol_runs.proofs.Tallies.{one, tally, counted, tally-map, tally-true, tally-more, flat_map-same}
 use Rattle.protocol_runs.proofs.Accounting.{HasSentSame, from-own, from-other, held, stands, stands_by, stands-le, stands-same, SameSent, same-sent, IsKept, kept-le, IsSilent, silent-kept, have-arrived, move-kept}
 
@@ -181,6 +181,19 @@ module _ {C M D : Type 0} (r : Rules C M D) (Fits : ℕ → C → ℕ → Type 0
             ap (λ (ms : List Mailed). tally (λ (m : Mailed). f m.number) ms) (opening-held r.controllers (λ c x there. let empty = carries.opens c x there in empty.0)) in
             omega (arith, none);
       }
+
+  numbers-count : (c k n : ℕ) → length (numbers_from c k n) ≡ n
+  numbers-count c k zero = refl
+  numbers-count c k (suc n) = let rest = numbers-count c (k + 1) n in omega (arith, rest)
+
+  -- each request that the driver issues in a world of a run has one number
+  pub requests-count : (history : List Event) (w : World C D) (journal : List Entry) → IsRun r history w journal → w.verdict ≡ None
+      → length (delivery_numbers r (driver_turn_in r w).requests) ≡ length (driver_turn_in r w).requests
+  requests-count history w journal is running =
+      let fits = world-fits r Fits Suits Leads sound history w journal is in
+      let d : DriverTurn C M D = driver_turn_in r w in
+      ap (λ (ns : List MsgNo). length ns) (carries.asks w.driver (controllers_in r Fits Suits Leads sound w) w.now w.issued (asked-in r Fits Suits Leads sound w running fits))
+      ∙ numbers-count (length r.controllers) w.issued (length d.requests)
 
   record IsKnown (x : Ran C D) : Type 0 where
     fits : WorldFits r Fits Suits Leads sound x.world

@@ -14,11 +14,11 @@ use Rattle.run_journal.specs.declared.entry.End.{End}
 use Rattle.run_journal.specs.declared.entry.Entry.{Entry}
 use Rattle.run_journal.specs.declared.entry.FireNote.{FireNote}
 use Rattle.run_journal.specs.declared.event.Event.{Event}
-use Rattle.protocol_runs.specs.Prelude.{Rules, Acts, Mailed, Place, World, held_mail, Moved, fired_entry, with_controller, with_arrival, with_delivery_at, with_delivery, with_deliveries, with_moved, delivery_numbers, sent_numbers, consumed_numbers, sent_in, consumed_in, times, Ends, Idled, Filled, Halted, Move, Taken, FiredBy, EndedBy, Released, mail_numbers, IsOnce, KeepsMail, MovesMail, AllSuit, IsSound, CarriesMail}
+use Rattle.protocol_runs.specs.Prelude.{Rules, Acts, Mailed, Place, World, held_mail, Moved, fired_entry, with_controller, with_arrival, with_delivery_at, with_delivery, with_deliveries, with_moved, delivery_numbers, sent_numbers, consumed_numbers, sent_in, consumed_in, times, Ends, Idled, Filled, Halted, Move, Taken, FiredBy, EndedBy, Released, mail_numbers, IsNew, IsOnce, KeepsMail, MovesMail, AllSuit, IsSound, CarriesMail}
 use Rattle.ruby_value.specs.declared.message.Delivery.{Delivery}
 use Rattle.protocol_runs.proofs.Places.{Paired, paired-same, paired-set, paired-trans, set-at, AllFit, set-fits, deliveries-length, deliveries-grown}
 use Rattle.protocol_runs.proofs.Fitting.{WorldFits}
-use Rattle.protocol_runs.proofs.Tallies.{one, tally, counted, tally-map, tally-set, tally-within, tally-more}
+use Rattle.protocol_runs.proofs.Tallies.{one, tally, counted, tally-append, tally-map, tally-set, tally-within, tally-more}
 
 pub one-le : (b : Bool) → one b ≤ 1
 one-le true = omega arith
@@ -147,29 +147,28 @@ module _ {C M D : Type 0} (r : Rules C M D) (Fits : ℕ → C → ℕ → Type 0
     pub sent : (c : ℕ) → SameSent r (slice_get places c) (slice_get after c)
 
   one-arrived : (now : ℕ) (places : List (Place C)) (d : Delivery M) (p : Place C) → slice_get places d.receiver ≡ Some p
-      → Suits d.receiver d.message now → AllFit r Fits now places → held r (same_number (r.number d.message)) places ≡ 0
+      → Suits d.receiver d.message now → AllFit r Fits now places
+      → ((number : MsgNo) → tally (same_number number) (r.numbers d.message) + held r (same_number number) places ≤ 1)
       → HaveArrived places (d ∷ []) (with_delivery r places d)
   one-arrived now places d p there suits fit new =
-      let number : MsgNo = r.number d.message in
       let q : Place C = with_controller p (with_arrival r p.controller d.message) in
-      let within : mail r (same_number number) p.controller ≤ held r (same_number number) places =
-      tally-within (λ (m : Mailed). same_number number m.number) (λ (s : Place C). r.mail s.controller) places d.receiver p there in
-      let none : times number (mail_numbers r p.controller) ≡ 0 = omega (arith, within, new, mail-counted r (same_number number) p.controller) in
-      let takes = carries.arrives d.receiver now p.controller d.message (fit d.receiver p there) suits none in
+      let first : IsNew r p.controller d.message =
+      λ number.
+      let f : MsgNo → Bool = same_number number in
+      let within : mail r f p.controller ≤ held r f places =
+      tally-within (λ (m : Mailed). f m.number) (λ (s : Place C). r.mail s.controller) places d.receiver p there in
+      omega (arith, within, new number, counted f (r.numbers d.message), mail-counted r f p.controller) in
+      let takes = carries.arrives d.receiver now p.controller d.message (fit d.receiver p there) suits first in
       let is : with_delivery r places d ≡ slice_set places d.receiver q = ap (λ (o : Option (Place C)). with_delivery_at r places d o) there in
       let arrived : HaveArrived places (d ∷ []) (slice_set places d.receiver q) =
       record {
         held = λ f.
-            let one_more : count_by f (mail_numbers r q.controller) ≡ count_by f (number ∷ []) + count_by f (mail_numbers r p.controller) = takes.mail f in
-            omega (arith, one_more, counted f (number ∷ []), mail-counted r f q.controller, mail-counted r f p.controller, held-set r f places d.receiver p q there);
+            let more : count_by f (mail_numbers r q.controller) ≡ count_by f (r.numbers d.message) + count_by f (mail_numbers r p.controller) = takes.mail f in
+            let all : tally f (delivery_numbers r (d ∷ [])) ≡ tally f (r.numbers d.message) = ap (tally f) (append-nil (r.numbers d.message)) in
+            omega (arith, more, all, counted f (r.numbers d.message), mail-counted r f q.controller, mail-counted r f p.controller, held-set r f places d.receiver p q there);
         sent = λ c. paired-set (HasSentSame r) (λ s. refl) places d.receiver c p q there takes.sent;
       } in
       subst (HaveArrived places (d ∷ [])) (sym is) arrived
-
-  same-own : (number : MsgNo) → one (same_number number number) ≡ 1
-  same-own number =
-      ap (λ (b : Bool). one (b && eqb number.count number.count)) (eq-eqb number.sender number.sender refl)
-      ∙ ap one (eq-eqb number.count number.count refl)
 
   get-some : {X : Type 0} (xs : List X) (c : ℕ) → c < length xs → (x : X) × (slice_get xs c ≡ Some x)
   get-some [] c within = absurd (omega arith)
@@ -183,21 +182,22 @@ module _ {C M D : Type 0} (r : Rules C M D) (Fits : ℕ → C → ℕ → Type 0
   have-arrived now places [] suit there fit count new =
       record { held = λ f. omega arith; sent = λ c. same-sent r (slice_get places c) }
   have-arrived now places (d ∷ ds) suit there fit count new =
-      let number : MsgNo = r.number d.message in
       let P = λ (x : Delivery M). Suits x.receiver x.message now in
       let Q = λ (x : Delivery M). x.receiver < length r.controllers in
       let within : d.receiver < length places = omega (arith, count, All-head Q d ds there) in
       let (p, here) = get-some places d.receiver within in
-      let own : one (same_number number number) ≡ 1 = same-own number in
-      let fresh : held r (same_number number) places ≡ 0 = omega (arith, new number, own) in
-      let first = one-arrived now places d p here (All-head P d ds suit) fit fresh in
+      let both : (f : MsgNo → Bool) → tally f (delivery_numbers r (d ∷ ds)) ≡ tally f (r.numbers d.message) + tally f (delivery_numbers r ds) =
+      λ f. tally-append f (r.numbers d.message) (delivery_numbers r ds) in
+      let own : (f : MsgNo → Bool) → tally f (delivery_numbers r (d ∷ [])) ≡ tally f (r.numbers d.message) =
+      λ f. ap (tally f) (append-nil (r.numbers d.message)) in
+      let first = one-arrived now places d p here (All-head P d ds suit) fit (λ number. omega (arith, new number, both (same_number number))) in
       let next = with_delivery r places d in
       let grown = deliveries-grown r Fits Suits Leads sound now places (d ∷ []) (All-cons P d [] (All-head P d ds suit) (All-nil P)) fit in
       let rest =
       have-arrived now next ds (All-tail P d ds suit) (All-tail Q d ds there) grown.fit (deliveries-length r places (d ∷ []) ∙ count)
-      (λ other. let here = first.held (same_number other) in omega (arith, new other, here)) in
+      (λ other. let f : MsgNo → Bool = same_number other in omega (arith, new other, first.held f, both f, own f)) in
       record {
-        held = λ f. omega (arith, first.held f, rest.held f);
+        held = λ f. omega (arith, first.held f, rest.held f, both f, own f);
         sent = λ c.
             paired-trans (HasSentSame r) (λ p q s one two. two ∙ one) (slice_get places c) (slice_get next c) (slice_get (with_deliveries r next ds) c) (first.sent c) (rest.sent c);
       }

@@ -66,6 +66,9 @@ begun-marked marks now next inbox above all =
     (λ (o : InboxMessage). next < o.message.arrival → IsTrue (has_mark (marks_from next marks) o.message.arrival))
     (λ o has later. (marks_from-has marks next o.message.arrival).1 (omega (arith, later), has (omega (arith, above, later)))) inbox all
 
+same-own : (a : MsgNo) → moved.one (same_number a) a ≡ 1
+same-own a = let same : same_number a a ≡ true = grind (arith, nat_tests) in ap (λ b. cond b 1 0) same
+
 -- a number that isn't in an inbox comes before or after each that is
 apart : (a b : MsgNo) → same_number a b ≡ false → number_before a b ≡ not (number_before b a)
 apart a b differ = grind (arith, nat_tests, differ)
@@ -233,9 +236,11 @@ module _ {D : Type 0} (p : Meaning) (drive : D → List Seat → ℕ → own.Dri
   numbers-of : (inbox : List InboxMessage) → map (λ (o : runs_rules.Mailed). o.number) (map mailed inbox) ≡ numbers_in inbox
   numbers-of inbox = maps-join (λ (o : runs_rules.Mailed). o.number) mailed inbox
 
-  takes-mail : (x : Ctl) (m : Message) → times m.number (runs.mail_numbers R x) ≡ 0 → runs.TakesMail R x m (with_arrival x m)
-  takes-mail x m none = record {
+  takes-mail : (x : Ctl) (m : Message) → runs.IsNew R x m → runs.TakesMail R x m (with_arrival x m)
+  takes-mail x m new = record {
     mail = λ f.
+        let own : times m.number (m.number ∷ []) ≡ 1 = moved.single (same_number m.number) m.number ∙ same-own m.number in
+        let none : times m.number (runs.mail_numbers R x) ≡ 0 = omega (arith, own, new m.number) in
         let all = all-apart m.number x.mail.inbox (sym (ap (times m.number) (numbers-of x.mail.inbox)) ∙ none) in
         ap (count_by f) (numbers-of (with_message x.mail.inbox (incoming_message m)))
         ∙ moved.put f x.mail.inbox (incoming_message m) all

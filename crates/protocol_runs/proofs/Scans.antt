@@ -1,6 +1,7 @@
 -- What a scan that fired leaves, and what it has sent.
 use Rattle.std.proofs.Common.{◌≡◌, ◌<◌, ◌≤◌, ◌+◌, ℕ, List, [], ◌∷◌, Option, All, IsTrue, slice_get, map, length, refl, sym, ap, subst, ◌∙◌, arith}
 use Rattle.std.specs.Prelude.{count_by}
+use Rattle.std.proofs.lemmas.List.Concat.{flat_map_single}
 use Rattle.std.proofs.lemmas.List.Elements.{All-weaker}
 use Rattle.ruby_value.specs.Prelude.{has_mark}
 use Rattle.ruby_value.specs.declared.message.Delivery.{Delivery}
@@ -86,7 +87,7 @@ module _ {D : Type 0} (p : Meaning) (drive : D → List Seat → ℕ → own.Dri
     abbrev V : LocalView
     V = begun c fit.setup x now
 
-    lawful : IsLawful V
+    pub lawful : IsLawful V
     lawful =
         scan_begins fit.setup (actor_of s c) now x (lawful-machine s least is c fit.setup fit.one)
         (fit_each s.machines s.ranges fit.setup (actor_of s c) (controller-is s least is c fit.setup fit.one)) (omega (arith, fit.bound, is.cycles)) fit.fits
@@ -155,6 +156,7 @@ module _ {D : Type 0} (p : Meaning) (drive : D → List Seat → ℕ → own.Dri
             moved = λ f.
                 ap (λ (k : ℕ). k + count_by f (map (λ (n : Sent). n.number) w.acts.sent)) (ap (count_by f) (numbers-in x.mail.inbox))
                 ∙ has.moved f
+                ∙ sym (ap (λ (k : ℕ). count_by f w.acts.consumed + k + count_by f (numbers_in w.ctl.mail.inbox)) (ap (count_by f) (flat_map_single (λ (d : Delivery Message). d.message.number) w.acts.posted)))
                 ∙ sym (ap (λ (k : ℕ). count_by f w.acts.consumed + count_by f (delivery_numbers R w.acts.posted) + k) (ap (count_by f) (numbers-in w.ctl.mail.inbox)));
             numbers = has.numbers;
             sent = has.sent;

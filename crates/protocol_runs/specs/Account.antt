@@ -2,34 +2,15 @@
 -- it; until then it is in an inbox, stalled where it waits under a line, recycled where it doesn't wait and was put off, and
 -- else queued. The account counts these. What it must keep: no number is sent twice, and each number that was sent is in
 -- exactly one place, and no other number is in one.
-use Rattle.std.specs.Prelude.{◌≡◌, ◌≤◌, ◌+◌, ◌&&◌, ℕ, Bool, not, List, [], length, map, count_by}
-use Rattle.std.specs.List.{flat_map}
+use Rattle.std.specs.Prelude.{◌≡◌, ◌≤◌, ◌+◌, ◌&&◌, ℕ, Bool, not, List, length, map, count_by}
 use Rattle.ruby_value.specs.declared.message.MsgNo.{MsgNo}
 use Rattle.run_journal.specs.declared.entry.Entry.{Entry}
-use Rattle.run_journal.specs.declared.entry.Entry.TheVariants.{Fired, Ended, Turned}
-use Rattle.ruby_value.specs.declared.message.Sent.{Sent}
 use Rattle.run_journal.specs.declared.summary.Account.{Account}
+pub use Rattle.run_journal.specs.Prelude.{consumed_in, consumed_numbers, sent_in, sent_numbers}
 use Rattle.ruby_value.specs.Prelude.{same_number}
 use Rattle.protocol_runs.specs.RunRules.{Rules, Mailed}
 use Rattle.protocol_runs.specs.World.{Place, World}
 use Rattle.protocol_runs.specs.Verdict.{held_mail}
-
--- the numbers that an entry has as sent, or as issued
-abbrev pub sent_in : Entry → List MsgNo
-sent_in (Fired cycle c note consumed sent stalled woken recycled) = map (λ (s : Sent). s.number) sent
-sent_in (Ended cycle c end) = []
-sent_in (Turned cycle issued finding verdict) = issued
-
-abbrev pub consumed_in : Entry → List MsgNo
-consumed_in (Fired cycle c note consumed sent stalled woken recycled) = consumed
-consumed_in (Ended cycle c end) = []
-consumed_in (Turned cycle issued finding verdict) = []
-
-abbrev pub sent_numbers : List Entry → List MsgNo
-sent_numbers journal = flat_map sent_in journal
-
-abbrev pub consumed_numbers : List Entry → List MsgNo
-consumed_numbers journal = flat_map consumed_in journal
 
 abbrev pub is_stalled : Mailed → Bool
 is_stalled m = m.waits

@@ -10,7 +10,10 @@ pub mod Sample
 pub mod Account
 pub mod Alone
 pub mod Change
+pub mod Framed
 pub mod Fresh
+pub mod Held
+pub mod HeldLaws
 pub mod InvalidExactly
 pub mod MarksStay
 pub mod NextCycle

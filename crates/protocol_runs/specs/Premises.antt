@@ -2,7 +2,7 @@
 -- controller x with the number c at the cycle `now`; `Suits c m now` what holds of a message that comes to it at that cycle;
 -- `Leads d issued now` what holds of the driver d that has issued n requests as it comes to act at that cycle. All three are
 -- the instance's own.
-use Rattle.std.specs.Prelude.{◌≡◌, ◌<◌, ◌≤◌, ◌+◌, ◌==◌, ◌||◌, ℕ, Bool, Some, List, [], ◌∷◌, map, length, All, count_by, slice_get, IsTrue}
+use Rattle.std.specs.Prelude.{◌≡◌, ◌<◌, ◌≤◌, ◌+◌, ◌==◌, ◌||◌, ℕ, Bool, Some, List, [], map, length, All, count_by, slice_get, IsTrue}
 use Rattle.ruby_value.specs.Prelude.{has_mark, numbers_from}
 use Rattle.ruby_value.specs.declared.fault.Fault.TheVariants.{Invalid}
 use Rattle.ruby_value.specs.declared.message.MsgNo.{MsgNo}
@@ -23,6 +23,13 @@ module _ {C M D : Type 0} (r : Rules C M D) where
   abbrev pub IsOnce : C → Type 0
   IsOnce x = (number : MsgNo) → times number (mail_numbers x) ≤ 1
 
+  -- no number is twice among these and those of the inbox
+  abbrev pub AreNewNumbers : C → List MsgNo → Type 0
+  AreNewNumbers x numbers = (number : MsgNo) → times number numbers + times number (mail_numbers x) ≤ 1
+
+  abbrev pub IsNew : C → M → Type 0
+  IsNew x m = AreNewNumbers x (r.numbers m)
+
   -- the inbox and the count of sent messages stay
   pub record KeepsMail (before after : C) : Type 0 where
     pub mail : r.mail after ≡ r.mail before
@@ -39,11 +46,11 @@ module _ {C M D : Type 0} (r : Rules C M D) where
     pub sent : r.sent after ≡ r.sent before + length acts.sent
     pub receivers : All (λ (d : Delivery M). d.receiver < length r.controllers) copies
 
-  -- one more message is in the inbox
+  -- what comes is in the inbox, with what was there
   pub record TakesMail (before : C) (m : M) (after : C) : Type 0 where
     pub mail :
         (f : MsgNo → Bool)
-        → count_by f (mail_numbers after) ≡ count_by f (r.number m ∷ []) + count_by f (mail_numbers before)
+        → count_by f (mail_numbers after) ≡ count_by f (r.numbers m) + count_by f (mail_numbers before)
     pub sent : r.sent after ≡ r.sent before
 
   -- What sets and drops marks does no more than that: with one more mark a controller has this one beside its own, and as a
@@ -119,7 +126,7 @@ module _ {C M D : Type 0} (r : Rules C M D) (Fits : ℕ → C → ℕ → Type 0
     pub stops : (x : C) (at : StopAt) → KeepsMail r x (r.with_stop x at)
     pub begins : (x : C) (next : ℕ) → KeepsMail r x (r.at_cycle x next)
     pub arrives :
-        (c now : ℕ) (x : C) (m : M) → Fits c x now → Suits c m now → times (r.number m) (mail_numbers r x) ≡ 0
+        (c now : ℕ) (x : C) (m : M) → Fits c x now → Suits c m now → IsNew r x m
         → TakesMail r x m (with_arrival r x m)
     pub serves :
         (d : D) (xs : List C) (now issued : ℕ) → IsAsked d xs now issued → (c : ℕ) (x : C) → slice_get xs c ≡ Some x

@@ -70,6 +70,6 @@ module _ {D : Type 0} (p : Meaning) (drive : D → List Seat → ℕ → Drive D
     stopped = λ x. x.stopped;
     mail = λ x. map mailed x.mail.inbox;
     sent = λ x. x.mail.sent;
-    number = λ m. m.number;
+    numbers = λ m. m.number ∷ [];
     arrival = λ m. m.arrival;
   }

@@ -83,6 +83,7 @@ pub record Rules (C M D : Type 0) : Type 0 where
   pub mail : C → List Mailed
   -- how many messages it has sent
   pub sent : C → ℕ
-  pub number : M → MsgNo
+  -- the numbers that it brings to an inbox: a message brings its own, and what is no message brings none
+  pub numbers : M → List MsgNo
   -- the cycle from which a message can be seen
   pub arrival : M → ℕ

@@ -4,7 +4,7 @@
 -- or goes through the driver to the next cycle or a verdict. The steps of a run are this project's own; gem5 has one queue
 -- of events in their place.
 use Rattle.std.specs.Prelude.{ℕ, Bool, true, false, Option, None, Some, List, [], ◌∷◌, ◌+◌, ◌||◌, ◌==◌, map, length, fold, slice_get, slice_set, is_none, if◌then◌else◌}
-use Rattle.std.specs.List.{list_any}
+use Rattle.std.specs.List.{flat_map, list_any}
 use Rattle.ruby_value.specs.declared.fault.Finding.{Finding}
 use Rattle.ruby_value.specs.declared.message.MsgNo.{MsgNo}
 use Rattle.run_journal.specs.declared.entry.End.{End}
@@ -159,7 +159,7 @@ module _ {C M D : Type 0} (r : Rules C M D) where
       }
 
   abbrev pub delivery_numbers : List (Delivery M) → List MsgNo
-  delivery_numbers ds = map (λ (d : Delivery M). r.number d.message) ds
+  delivery_numbers ds = flat_map (λ (d : Delivery M). r.numbers d.message) ds
 
   abbrev pub next_in : World C D → Option ℕ
   next_in w = next_cycle r w.now w.next w.places

@@ -3,9 +3,13 @@
 //! There is no code here: the definitions stand in `specs/`, and the functions do nothing, and their contracts are the laws.
 #![tactic(auto)]
 
+mod held_laws;
 mod laws;
 mod sample_run;
 
+pub use held_laws::{
+    copies_may_come, held_controllers_grow, runs_are_framed, workers_go_on_with_what_they_hold,
+};
 pub use laws::{
     accounts_for_each_message, controllers_fit, invalid_comes_exactly,
     machines_of_controllers_are_found, no_mark_is_lost, numbers_are_fresh,

@@ -139,6 +139,7 @@ fn together(
     let get_state = function_among(&bodies.functions, b"getState");
     let set_state = function_among(&bodies.functions, b"setState");
     let set_permission = function_among(&bodies.functions, b"setAccessPermission");
+    let get_next_state = function_among(&bodies.functions, b"getNextState");
     let stall = action_among(&bodies.actions, b"z_stall");
     MachineSymbols {
         name: rest.name,
@@ -161,6 +162,7 @@ fn together(
         get_state,
         set_state,
         set_permission,
+        get_next_state,
         stall,
     }
 }

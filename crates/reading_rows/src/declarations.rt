@@ -1,6 +1,6 @@
 // Texts that are read as declarations and their parts.
 use crate::forms::{Form, Reading};
-use ruby_outside::RowText;
+use example_texts::RowText;
 use slicc_decl::{
     enumeration, formals, include, literal, machine_head, names, optional_protocol, out_port,
     parameter, states, structure, transition,

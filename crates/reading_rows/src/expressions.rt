@@ -3,8 +3,8 @@ ghost use Rattle.std.specs.Prelude.{◌≤◌, length};
 ghost use Rattle.slicc_lex.specs.Prelude.{AreEnded};
 
 use crate::forms::Reading;
+use example_texts::RowText;
 use ruby_base::Seq;
-use ruby_outside::RowText;
 use slicc_ast::tree::{Expr, Operand, Operator, Suffix};
 use slicc_expr::expr;
 use slicc_lex::Token;

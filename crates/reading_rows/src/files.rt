@@ -3,8 +3,8 @@ ghost use Rattle.std.specs.Prelude.{◌≤◌, length};
 ghost use Rattle.slicc_parse.specs.Prelude.{AreEndedOnce};
 
 use crate::tokens::add_span;
+use example_texts::RowText;
 use ruby_base::Seq;
-use ruby_outside::RowText;
 use slicc_ast::spans;
 use slicc_ast::tree::Tree;
 use slicc_lex::Token;

@@ -2,7 +2,7 @@
 use crate::forms::{Form, Reading, reading_named};
 use crate::texts::add_text;
 use crate::tokens::add_place;
-use ruby_outside::RowText;
+use example_texts::RowText;
 
 fn number(word: Option<&str>) -> u32 {
     word.unwrap_or("").parse::<u32>().unwrap_or(0)

@@ -1,7 +1,7 @@
 // Command lines, and what each asks for by the tables of commands and options and by what clap says of itself. A line has the name of a
 // program and its words with a `|` between two, where a `?` is a word that isn't UTF-8.
+use example_texts::RowText;
 use ruby_options::{Command, OptionFault, Options, read, words};
-use ruby_outside::RowText;
 use std::env::{Env, FillError};
 use std::io::ErrorKind;
 

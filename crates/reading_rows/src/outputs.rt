@@ -1,5 +1,6 @@
 // Writes to an output that fails, or takes some bytes of a piece at most.
-use ruby_outside::{RowText, Sink, StdSink, Wrote, put};
+use example_texts::RowText;
+use ruby_outside::{Sink, StdSink, Wrote, put};
 use std::cell::Cell;
 use std::fmt::Display;
 use std::io::{self, ErrorKind};

@@ -2,7 +2,8 @@
 use crate::options::add_line;
 use crate::outputs::add_output;
 use crate::outside_files::{add_file, add_torn, text_of};
-use ruby_outside::{Library, RowText};
+use example_texts::RowText;
+use ruby_outside::Library;
 use std::io::ErrorKind;
 
 // The most bytes that a protocol's file may have.

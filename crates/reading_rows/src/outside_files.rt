@@ -1,6 +1,7 @@
 // Reads of real files, and of a reader that fails where its bytes end.
+use example_texts::RowText;
 use ruby_base::Text;
-use ruby_outside::{Got, Library, RowText, read_opened};
+use ruby_outside::{Got, Library, read_opened};
 use std::io::{self, ErrorKind, Read};
 
 // The most bytes that a file of rows may have.

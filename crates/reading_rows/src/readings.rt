@@ -1,6 +1,7 @@
 // What is read in each text of the file `readings`.
 use crate::lines::add_line;
-use ruby_outside::{Got, Library, RowText};
+use example_texts::RowText;
+use ruby_outside::{Got, Library};
 
 const LIMIT: u64 = 1_048_576;
 

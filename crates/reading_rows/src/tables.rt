@@ -3,15 +3,15 @@ ghost use Rattle.std.specs.Prelude.{◌≤◌, length};
 ghost use Rattle.slicc_parse.specs.Prelude.{AreEndedOnce};
 ghost use Rattle.slicc_plan.specs.Prelude.{HasFewMachines};
 
+use example_texts::RowText;
 use machine_table::build_of_trees;
 use ruby_base::{Seq, Text};
-use ruby_outside::RowText;
 use slicc_ast::tree::Tree;
 use slicc_flow::flow_of_trees;
 use slicc_lex::Token;
 use slicc_names::{Names, collect};
 use slicc_parse::parse;
-use slicc_plan::{Row, machine_at};
+use slicc_plan::{Next, Row, machine_at};
 use std::alloc::Global;
 
 // Scopes and names in them. The protocol is scope 0.
@@ -78,11 +78,15 @@ fn add_name(rows: &mut RowText, names: &Names, scope: u16, name: &str) {
     rows.add("; ");
 }
 
-// Adds the next state, the transition, how many actions there are, and the first of them or 0.
+// Adds the next state, or a star where the machine is asked for it, the transition, how many actions there are, and the first of
+// them or 0.
 fn add_row(rows: &mut RowText, row: Option<&Row>) {
     match row {
         Some(row) => {
-            rows.show(" ", &row.next);
+            match row.next {
+                Next::To(state) => rows.show(" ", &state),
+                Next::Asked => rows.add(" *"),
+            }
             rows.show(" ", &row.transition);
             rows.show(" ", &row.actions.len());
             rows.show(" ", row.actions.first().unwrap_or(&0));

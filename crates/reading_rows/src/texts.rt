@@ -10,8 +10,8 @@ use crate::files::add_file;
 use crate::forms::{Form, Reading};
 use crate::tables::{add_needs, add_numbers};
 use crate::tokens::add_token;
+use example_texts::RowText;
 use ruby_base::Seq;
-use ruby_outside::RowText;
 use slicc_lex::{Token, lex};
 
 // The number of the file that each text is.

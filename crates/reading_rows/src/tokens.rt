@@ -1,5 +1,5 @@
 // Tokens of texts, and places in them.
-use ruby_outside::RowText;
+use example_texts::RowText;
 use slicc_ast::tree::Span;
 use slicc_lex::{Sign, Token, TokenKind, Word, place_of};
 

@@ -4,10 +4,10 @@ ghost use Rattle.std.specs.Prelude.{◌<◌, IfSome, length};
 
 use crate::row::{add, row_of};
 use crate::table::end_of;
-use made_files::{add_files, number};
+use example_texts::{RowText, add_files, number};
 use ruby_base::{NoMemory, Seq, Text};
 use ruby_cli::ruby;
-use ruby_outside::{Library, MemLibrary, MemSink, OpenGate, RowText};
+use ruby_outside::{Library, MemLibrary, MemSink, OpenGate};
 use std::alloc::Global;
 use std::sync::Wait;
 use std::thread::Threads;

@@ -2,8 +2,9 @@
 use crate::faults::said;
 use crate::row::add;
 use crate::{faults, table};
+use example_texts::RowText;
 use ruby_base::NoMemory;
-use ruby_outside::{Got, Library, RowText};
+use ruby_outside::{Got, Library};
 use std::alloc::Global;
 use std::sync::Wait;
 use std::thread::Threads;

@@ -10,8 +10,9 @@ mod lists;
 mod row;
 mod table;
 
+use example_texts::RowText;
 use lists::add_list;
-use ruby_outside::{FileLibrary, RowText, StdSink, put};
+use ruby_outside::{FileLibrary, StdSink, put};
 use std::process::ExitCode;
 
 fn main(rt: HostRuntime) -> ExitCode {

@@ -2,8 +2,8 @@
 ghost use Rattle.std.specs.Prelude.{◌≡◌, ◌++◌, IfOk, OnOk};
 ghost use Rattle.rows.specs.Prelude.{ending_of, row_of, status_line};
 
+use example_texts::RowText;
 use ruby_base::{NoMemory, Text};
-use ruby_outside::RowText;
 use std::alloc::Global;
 
 // What comes after a text.

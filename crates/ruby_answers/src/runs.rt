@@ -1,5 +1,6 @@
 //! The lines of runs.
 ghost use Rattle.std.specs.Prelude.{◌≡◌, ◌≤◌, cond, count_by, flat_map, slice_get};
+ghost use Rattle.run_journal.specs.Prelude.{entry_of};
 ghost use Rattle.ruby_answers.specs.Prelude.{final_word, generated_line, is_fired, run_lines, traced_lines};
 ghost use Rattle.slicc_plan.specs.Prelude.{symbols_of};
 ghost use Rattle.trace_print.specs.Prelude.{entry_lines, AreLinesPut, IsLinePut};
@@ -7,17 +8,17 @@ ghost use Rattle.trace_print.specs.Prelude.{entry_lines, AreLinesPut, IsLinePut}
 use protocol_meaning::RunRecord;
 use ruby_base::{Seq, Text};
 use ruby_outside::Sink;
-use run_journal::Entry;
+use run_journal::{EntryRef, Journal};
 use slicc_plan::{Plan, counts};
 use trace_print::{
     RunText, Word, controller_machine, state_word, write_entry, write_rest, write_verdict,
 };
 
-fn write_journal<S: Sink>(sink: &mut S, plan: &Plan, names: &Seq<Text>, journal: &[Entry]) -> bool
+fn write_journal<S: Sink>(sink: &mut S, plan: &Plan, names: &Seq<Text>, journal: &Journal) -> bool
     ensures { AreLinesPut S.writes sink.old (flat_map (entry_lines (symbols_of plan.now) names.now) journal.now) result sink.new }
 {
-    for entry in journal {
-        if !write_entry(sink, plan, names, entry) {
+    for place in 0..journal.len() {
+        if !write_entry(sink, plan, names, journal.entry(place)) {
             return false;
         }
     }
@@ -31,7 +32,7 @@ fn write_traced<S: Sink>(sink: &mut S, run: &RunRecord) -> bool
         return true;
     }
     let names = &run.topology.names;
-    write_journal(sink, &run.plan, names, run.journal.as_slice())
+    write_journal(sink, &run.plan, names, &run.journal)
 }
 
 /// Writes the lines of a run, up to the first that isn't written whole, and answers whether all were.
@@ -54,23 +55,23 @@ pub(crate) fn write_run<S: Sink>(sink: &mut S, run: &RunRecord) -> bool
 }
 
 // What an entry adds to how many transitions fired.
-fn counted(entry: &Entry) -> u64
-    ensures value { result ≡ cond (is_fired entry.now) 1 0 }
+fn counted(entry: EntryRef<'_>) -> u64
+    ensures value { result ≡ cond (is_fired (entry_of entry.entry)) 1 0 }
     ensures bound { result ≤ 1 }
 {
     match entry {
-        Entry::Fired { .. } => 1,
-        Entry::Ended { .. } => 0,
-        Entry::Turned { .. } => 0,
+        EntryRef::Fired { .. } => 1,
+        EntryRef::Ended { .. } => 0,
+        EntryRef::Turned { .. } => 0,
     }
 }
 
-fn fired(journal: &[Entry]) -> u64
+fn fired(journal: &Journal) -> u64
     ensures { result ≡ count_by is_fired journal.now }
 {
     let mut count = 0;
-    for entry in journal {
-        count += counted(entry);
+    for place in 0..journal.len() {
+        count += counted(journal.entry(place));
     }
     count
 }
@@ -102,7 +103,7 @@ pub(crate) fn write_generated<S: Sink>(sink: &mut S, run: &RunRecord) -> bool
             Word::Bytes(b"states"),
             Word::Number(counts.states),
             Word::Bytes(b"fired"),
-            Word::Number(fired(run.journal.as_slice())),
+            Word::Number(fired(&run.journal)),
             Word::Bytes(b"final"),
             Word::Bytes(final_word(run)),
         ],

@@ -12,7 +12,7 @@ mod types;
 
 pub use kinds::{kind_named, kind_of_enumeration, kind_of_reference};
 pub use machine::{
-    ActionSymbol, BufferSymbol, FormalSymbol, FunctionSymbol, MachineSymbols, PortSymbol,
+    ActionSymbol, BufferSymbol, FormalSymbol, FunctionSymbol, MachineSymbols, Next, PortSymbol,
     TableSort, TableSymbol, TransitionSymbol,
 };
 pub use names::{

@@ -123,6 +123,15 @@ impl Drop for ActionSymbol {
     }
 }
 
+/// The state that a transition names as the one after it.
+#[derive(Clone, Copy)]
+pub enum Next {
+    /// The state of this number.
+    To(u16),
+    /// `*`: the state that the machine's function `getNextState` answers on the address, asked before the actions are done.
+    Asked,
+}
+
 /// A transition as it is written: for each of these states and each of these events it does these actions, in this order.
 pub struct TransitionSymbol {
     /// Each once.
@@ -130,7 +139,7 @@ pub struct TransitionSymbol {
     /// Each once.
     pub events: Seq<u16>,
     /// The state after it, where it names one. Else that is the state before it.
-    pub next: Option<u16>,
+    pub next: Option<Next>,
     pub actions: Seq<u16>,
 }
 
@@ -184,6 +193,8 @@ pub struct MachineSymbols {
     pub set_state: Option<u16>,
     /// The number of the function `setAccessPermission`, where there is one.
     pub set_permission: Option<u16>,
+    /// The number of the function `getNextState`, where there is one. A transition with the next state `*` asks it.
+    pub get_next_state: Option<u16>,
     /// The number of the action `z_stall`, where there is one: a transition that lists it is a protocol stall.
     pub stall: Option<u16>,
 }
@@ -211,6 +222,7 @@ impl Drop for MachineSymbols {
             get_state: _,
             set_state: _,
             set_permission: _,
+            get_next_state: _,
             stall: _,
         } = self;
     }

@@ -11,7 +11,10 @@ use Rattle.run_journal.specs.declared.entry.Entry.TheVariants.{Fired, Ended, Tur
 use Rattle.run_journal.specs.declared.entry.FireNote.{FireNote}
 use Rattle.ruby_value.specs.declared.message.Sent.{Sent}
 use Rattle.ruby_value.specs.declared.message.MsgNo.{MsgNo}
-use Rattle.run_journal.specs.Prelude.{next_state}
+use Rattle.run_journal.specs.declared.lent.EntryRef.{EntryRef}
+use Rattle.run_journal.specs.declared.lent.EntryRef.TheVariants as lent
+use Rattle.run_journal.specs.declared.lent.FireLists.{FireLists}
+use Rattle.run_journal.specs.Prelude.{entry_of, next_state}
 
 -- by controller and then by address
 abbrev pub place_cmp : ℕ × ℕ → ℕ × ℕ → Ordering
@@ -44,3 +47,10 @@ passes_over (Turned cycle issued finding verdict) c a rest old not = refl
 -- at the end of a journal nothing is left to take in
 pub at_end : (entries : List Entry) (i : ℕ) (c a : ℕ) (old last : Option ℕ) → length entries ≤ i → last_or old (filter_map (next_state c a) (drop i entries)) ≡ last → old ≡ last
 at_end entries i c a old last l so = ap (λ rest. last_or old (filter_map (next_state c a) rest)) (sym (drop_all i entries l)) ∙ so
+
+-- an entry that is lent as no transition is none
+pub not_fired : (e : EntryRef) → ((cycle k : ℕ) (note : FireNote) (lists : FireLists) → e ≡ lent.Fired cycle k note lists → ⊥)
+    → (cycle k : ℕ) (note : FireNote) (consumed : List MsgNo) (sent : List Sent) (stalled woken recycled : List MsgNo) → entry_of e ≡ Fired cycle k note consumed sent stalled woken recycled → ⊥
+not_fired (lent.Fired cycle k note lists) not c n o consumed sent stalled woken recycled is = not cycle k note lists refl
+not_fired (lent.Ended cycle k end) not c n o consumed sent stalled woken recycled is = cc
+not_fired (lent.Turned cycle issued finding verdict) not c n o consumed sent stalled woken recycled is = cc

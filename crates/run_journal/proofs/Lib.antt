@@ -1,4 +1,7 @@
 pub mod FinalStates
+mod KeptRows
 mod LastStates
+mod ListedLists
+mod MoreColumns
 mod PartStates
 mod SomeFinals

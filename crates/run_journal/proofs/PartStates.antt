@@ -1,5 +1,6 @@
 -- The last states of a controller are those of its part of a journal.
-use Rattle.std.proofs.Common.{◌≡◌, ℕ, cond, Bool, true, false, List, [], ◌∷◌, None, refl, sym, ap, ◌∙◌}
+use Rattle.std.proofs.Common.{◌≡◌, ◌<◌, ◌+◌, ◌++◌, ℕ, suc, cond, Bool, true, false, List, [], ◌∷◌, None, length, get_or, drop, refl, sym, ap, ◌∙◌, add-one, append_assoc}
+use Rattle.std.proofs.Math.Seq.{drop-cons}
 use Rattle.std.specs.List.{cons_option, filter_map, last_or}
 use Rattle.run_journal.specs.declared.entry.Entry.{Entry}
 use Rattle.run_journal.specs.declared.entry.Entry.TheVariants.{Fired, Ended, Turned}
@@ -34,3 +35,22 @@ finals_of_parts j k all same are =
       ascending = are.ascending;
       exactly = λ f. (λ has. sym (same_states j k f.controller f.address (same f.controller)) ∙ (are.exactly f).0 has, λ left. (are.exactly f).1 (same_states j k f.controller f.address (same f.controller) ∙ left));
     }
+
+-- the part so far, and the entry at a place, which is of the controller or isn't
+module _ (c : ℕ) (journal so_far whole : List Entry) (i : ℕ) (e : Entry) (l : i < length journal) (here : e ≡ get_or journal i e) (so : so_far ++ part_of c (drop i journal) ≡ whole) where
+  from-here : drop i journal ≡ e ∷ drop (i + 1) journal
+  from-here = rw add-one (drop-cons journal i e l ∙ ap (λ x. x ∷ drop (suc i) journal) (sym here))
+
+  pub own-entry : (copy : Entry) (after : List Entry) → copy ≡ e → after ≡ so_far ++ copy ∷ [] → is_of c e ≡ true → after ++ part_of c (drop (i + 1) journal) ≡ whole
+  own-entry copy after copy_is after_is own =
+      ap (λ xs. xs ++ part_of c (drop (i + 1) journal)) (after_is ∙ ap (λ x. so_far ++ x ∷ []) copy_is)
+      ∙ append_assoc so_far (e ∷ []) (part_of c (drop (i + 1) journal))
+      ∙ ap (λ t. so_far ++ cond t (e ∷ part_of c (drop (i + 1) journal)) (part_of c (drop (i + 1) journal))) (sym own)
+      ∙ ap (λ xs. so_far ++ part_of c xs) (sym from-here)
+      ∙ so
+
+  pub other-entry : is_of c e ≡ false → so_far ++ part_of c (drop (i + 1) journal) ≡ whole
+  other-entry other =
+      ap (λ t. so_far ++ cond t (e ∷ part_of c (drop (i + 1) journal)) (part_of c (drop (i + 1) journal))) (sym other)
+      ∙ ap (λ xs. so_far ++ part_of c xs) (sym from-here)
+      ∙ so

@@ -1,7 +1,13 @@
 pub mod AreFinals
+pub mod Columns
 pub mod FinalBefore
 pub mod IsBefore
+pub mod Journaled
+pub mod KeptJournal
 pub mod LastState
+pub mod Lent
+pub mod Listed
+pub mod Numbers
 pub mod PartOf
 pub mod Tally
 pub mod Prelude

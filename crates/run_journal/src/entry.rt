@@ -1,5 +1,4 @@
 ghost use Rattle.std.specs.Prelude.{◌≡◌, IfOk};
-ghost use Rattle.run_journal.specs.PartOf.{is_of};
 
 use crate::{Fault, Finding, MsgNo, NoMemory, Sent, Seq, Verdict};
 use std::alloc::Global;
@@ -52,19 +51,6 @@ pub enum End {
     Stop(StopAt),
 }
 
-impl End {
-    /// The same end once more, with a stop of its own.
-    pub fn copied(alloc: Global, end: &End) -> Result<End, NoMemory>
-        ensures { IfOk result (λ e. e ≡ end.now) }
-    {
-        Ok(match end {
-            End::Idle => End::Idle,
-            End::Full => End::Full,
-            End::Stop(stop) => End::Stop(StopAt::copied(alloc, stop)?),
-        })
-    }
-}
-
 /// An entry of a run's journal. The journal has one for each event but `Take` and `Release`, in their order. Cycles
 /// and controllers are counted from 0. The lists of a transition stand in the order of its acts. The journal is this
 /// project's own.
@@ -102,64 +88,4 @@ pub enum Entry {
         /// How the run ended, where it ended here.
         verdict: Option<Verdict>,
     },
-}
-
-impl Entry {
-    /// Whether the entry is one of this controller: a transition that it fired, or the end of a wake-up of it.
-    pub fn is_of(&self, controller: u32) -> bool
-        ensures { result ≡ is_of controller self.now }
-    {
-        match self {
-            Entry::Fired { controller: c, .. } => *c == controller,
-            Entry::Ended { controller: c, .. } => *c == controller,
-            Entry::Turned { .. } => false,
-        }
-    }
-
-    /// The same entry once more, with lists and an end of its own.
-    pub fn copied(alloc: Global, entry: &Entry) -> Result<Entry, NoMemory>
-        ensures { IfOk result (λ e. e ≡ entry.now) }
-    {
-        Ok(match entry {
-            Entry::Fired {
-                cycle,
-                controller,
-                note,
-                consumed,
-                sent,
-                stalled,
-                woken,
-                recycled,
-            } => Entry::Fired {
-                cycle: *cycle,
-                controller: *controller,
-                note: *note,
-                consumed: Seq::copied(alloc, consumed.as_slice())?,
-                sent: Seq::copied(alloc, sent.as_slice())?,
-                stalled: Seq::copied(alloc, stalled.as_slice())?,
-                woken: Seq::copied(alloc, woken.as_slice())?,
-                recycled: Seq::copied(alloc, recycled.as_slice())?,
-            },
-            Entry::Ended {
-                cycle,
-                controller,
-                end,
-            } => Entry::Ended {
-                cycle: *cycle,
-                controller: *controller,
-                end: End::copied(alloc, end)?,
-            },
-            Entry::Turned {
-                cycle,
-                issued,
-                finding,
-                verdict,
-            } => Entry::Turned {
-                cycle: *cycle,
-                issued: Seq::copied(alloc, issued.as_slice())?,
-                finding: *finding,
-                verdict: *verdict,
-            },
-        })
-    }
 }

@@ -3,25 +3,25 @@ ghost use Rattle.std.specs.BTreeMap.{IsOrdered};
 ghost use Rattle.std.specs.Ordering.{nat_cmp, ordering_then};
 ghost use Rattle.run_journal.specs.Prelude.{AreFinals};
 
-use crate::{Entry, Final, NoMemory, Seq};
+use crate::{EntryRef, Final, Journal, NoMemory, Seq};
 use std::alloc::Global;
 use std::collections::BTreeMap;
 
 /// The final states of a run: for each controller and address that a transition fired for, the next state of the last
 /// such transition, by ascending controller and then address. It goes over the journal once, and each transition costs
 /// a search in an ordered map.
-pub fn finals(alloc: Global, j: &Seq<Entry>) -> Result<Seq<Final>, NoMemory>
+pub fn finals(alloc: Global, j: &Journal) -> Result<Seq<Final>, NoMemory>
     ensures { IfOk result (λ all. AreFinals j.now all) }
 {
     let mut states = BTreeMap::new(alloc);
-    for entry in j.as_slice() {
-        if let Entry::Fired {
+    for place in 0..j.len() {
+        if let EntryRef::Fired {
             controller,
             note,
             ..
-        } = entry
+        } = j.entry(place)
         {
-            let _before = states.insert((*controller, note.address), note.next)?;
+            let _before = states.insert((controller, note.address), note.next)?;
         }
     }
     listed(alloc, &states)

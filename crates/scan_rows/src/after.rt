@@ -8,7 +8,7 @@ use crate::left::{add_copies, add_lines, add_mail, add_requests};
 use controller_rows::{ScanEnd, apply, wake_again};
 use ctl_face::{Message, NoMemory, Routes, Seq};
 use ctl_store::{Draft, Store};
-use ruby_outside::RowText;
+use example_texts::RowText;
 use ruby_value::Delivery;
 use std::alloc::Global;
 

@@ -1,8 +1,9 @@
 // The lines of a journal: of each entry what a trace has of it, and below it what a trace leaves out, which is the lists of messages of a
 // transition. The end of a wake-up and a turn have a line of their own.
+use example_texts::RowText;
 use ruby_base::{Seq, Text};
-use ruby_outside::{RowText, Sink, put};
-use run_journal::{End, Entry, Finding, MsgNo, Sent, Verdict};
+use ruby_outside::{Sink, put};
+use run_journal::{EndRef, EntryRef, Finding, Journal, MsgNo, Sent, Verdict};
 use slicc_plan::Plan;
 use std::alloc::Global;
 use trace_print::write_entry;
@@ -60,11 +61,11 @@ fn verdict_word(verdict: &Option<Verdict>) -> &'static str {
 }
 
 // The line of the end of a wake-up that no trace has.
-fn add_end(rows: &mut RowText, names: &[Text], cycle: u64, controller: u32, end: &End) {
+fn add_end(rows: &mut RowText, names: &[Text], cycle: u64, controller: u32, end: EndRef<'_>) {
     let word = match end {
-        End::Idle => "idle ",
-        End::Full => "full ",
-        End::Stop(_) => return,
+        EndRef::Idle => "idle ",
+        EndRef::Full => "full ",
+        EndRef::Stop(_) => return,
     };
     rows.show(word, &cycle);
     rows.add(" ");
@@ -76,38 +77,31 @@ fn add_end(rows: &mut RowText, names: &[Text], cycle: u64, controller: u32, end:
 }
 
 // What a trace leaves out of an entry.
-fn add_rest(rows: &mut RowText, names: &[Text], e: &Entry) {
+fn add_rest(rows: &mut RowText, names: &[Text], e: EntryRef<'_>) {
     match e {
-        Entry::Fired {
-            consumed,
-            sent,
-            stalled,
-            woken,
-            recycled,
-            ..
-        } => {
-            add_numbers(rows, "  consumed ", consumed);
-            add_copies(rows, " sent ", sent);
-            add_numbers(rows, " stalled ", stalled);
-            add_numbers(rows, " woken ", woken);
-            add_numbers(rows, " recycled ", recycled);
+        EntryRef::Fired { lists, .. } => {
+            add_numbers(rows, "  consumed ", lists.consumed);
+            add_copies(rows, " sent ", lists.sent);
+            add_numbers(rows, " stalled ", lists.stalled);
+            add_numbers(rows, " woken ", lists.woken);
+            add_numbers(rows, " recycled ", lists.recycled);
             rows.add("\n");
         }
-        Entry::Ended {
+        EntryRef::Ended {
             cycle,
             controller,
             end,
-        } => add_end(rows, names, *cycle, *controller, end),
-        Entry::Turned {
+        } => add_end(rows, names, cycle, controller, end),
+        EntryRef::Turned {
             cycle,
             issued,
             finding,
             verdict,
         } => {
-            rows.show("turned ", cycle);
+            rows.show("turned ", &cycle);
             add_numbers(rows, " issued ", issued);
-            rows.show(" finding ", &finding_word(finding));
-            rows.show(" verdict ", &verdict_word(verdict));
+            rows.show(" finding ", &finding_word(&finding));
+            rows.show(" verdict ", &verdict_word(&verdict));
             rows.add("\n");
         }
     }
@@ -119,7 +113,7 @@ fn write_lines<S: Sink>(
     sink: &mut S,
     plan: &Plan,
     names: &Seq<Text>,
-    e: &Entry,
+    e: EntryRef<'_>,
 ) -> bool {
     let mut rest = RowText::new(alloc);
     add_rest(&mut rest, names.as_slice(), e);
@@ -132,10 +126,10 @@ pub fn write_entries<S: Sink>(
     sink: &mut S,
     plan: &Plan,
     names: &Seq<Text>,
-    journal: &[Entry],
+    journal: &Journal,
 ) -> bool {
-    for e in journal {
-        if !write_lines(alloc, sink, plan, names, e) {
+    for place in 0..journal.len() {
+        if !write_lines(alloc, sink, plan, names, journal.entry(place)) {
             return false;
         }
     }

@@ -4,7 +4,7 @@ use crate::shown::{add_block, add_value, state_name};
 use acts::{Local, Ref, Value, get, lookup, state};
 use ctl_face::{Fields, MachineSetup, Message, NoMemory};
 use ctl_store::Store;
-use ruby_outside::RowText;
+use example_texts::RowText;
 use ruby_value::{Answer, Ask, Delivery};
 
 // The lines that the rows speak of, of 64 bytes each.

@@ -20,8 +20,9 @@ mod scans;
 mod shown;
 
 pub use entries::write_entries;
+use example_texts::RowText;
 use list::{LISTS, add_list};
-use ruby_outside::{Library, RowText};
+use ruby_outside::Library;
 
 /// Adds the rows, over a library with the folder `scans`.
 pub fn add_scans<L: Library>(rows: &mut RowText, library: &mut L) {

@@ -1,7 +1,8 @@
 // The lists of scans, which are files with a few lines for each: its name, and below it a line `WORD TEXT` for what it has of its own.
 use crate::before::Before;
 use crate::scans::{Scan, add_scan};
-use ruby_outside::{Got, Library, RowText};
+use example_texts::RowText;
+use ruby_outside::{Got, Library};
 
 /// A list of scans: its file, that of what their protocols have in common, the address of their requests, their cycle, and the buffer
 /// that takes the messages of network 0.

@@ -1,8 +1,9 @@
 // The protocols of the rows.
 use crate::list::{number, part};
 use controller_rows::plan_of;
+use example_texts::RowText;
 use ruby_base::{NoMemory, Seq, Text};
-use ruby_outside::{RowText, SureLibrary};
+use ruby_outside::SureLibrary;
 use slicc_plan::Plan;
 use std::alloc::Global;
 

@@ -10,7 +10,7 @@ use crate::shown::add_end;
 use controller_rows::{begin, scan as scan_store};
 use ctl_face::{NoMemory, Routes};
 use ctl_store::Store;
-use ruby_outside::RowText;
+use example_texts::RowText;
 use slicc_interpreter::Interpreted;
 use slicc_plan::Plan;
 

@@ -1,7 +1,7 @@
 // How a scan ended, what it did to messages, and values, as text.
 use controller_rows::ScanEnd;
 use ctl_store::Outcome;
-use ruby_outside::RowText;
+use example_texts::RowText;
 use ruby_value::{Block, MsgNo, NetDest, Sent, Value};
 use run_journal::{FireNote, StopAt};
 use trace_print::fault_word;

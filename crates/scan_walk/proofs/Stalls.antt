@@ -1,11 +1,12 @@
--- A written transition is stalled where a table is short of free lines or its actions say so, and else it fires.
-use Rattle.std.proofs.Common.{◌≡◌, ◌∙◌, ℕ, Bool, true, false, Result, Ok, Err, sym, subst, unwrap_or}
+-- A written transition is stalled where a table is short of free lines or its actions say so. Else it is found which state it enters, and
+-- then it fires.
+use Rattle.std.proofs.Common.{◌≡◌, ◌∙◌, ℕ, Bool, true, false, Result, Ok, Err, sym}
 use Rattle.ruby_symbols.specs.declared.machine.TransitionSymbol.{TransitionSymbol}
 use Rattle.ctl_face.specs.declared.trouble.Trouble.{Trouble}
 use Rattle.ctl_face.specs.Prelude.{LocalView}
-use Rattle.acts.specs.Prelude.{Acting, either, DoesAs, itself}
+use Rattle.acts.specs.Prelude.{Acting, ◌>>=◌, either, DoesAs, itself}
 use Rattle.acts.proofs.Walk.{false_does, then_does, then_stops, true_does}
-use Rattle.body_meaning.specs.Prelude.{Reading, need, fired, is_short, is_stall_among, row_tried, waiting}
+use Rattle.body_meaning.specs.Prelude.{Reading, need, fired, is_short, is_stall_among, next_state, row_tried, waiting}
 use Rattle.body_meaning.specs.declared.thing.Trigger.{Trigger}
 use Rattle.body_meaning.specs.declared.frame.Tried.{Tried}
 
@@ -13,8 +14,11 @@ module _ (s : Reading) (t : Trigger) (state : ℕ) (row : TransitionSymbol) (u v
   abbrev shortness : Acting Bool
   shortness = is_short (need s row.actions) 0 s.machine.tables
 
+  abbrev entered : Acting ℕ
+  entered = next_state s t.address state row.next
+
   abbrev fires : Acting Tried
-  fires = fired s t state (unwrap_or row.next state) row
+  fires = entered >>= (λ next. fired s t state next row)
 
   abbrev unless_stalled : Acting Tried
   unless_stalled = either (is_stall_among row.actions s.machine.stall) waiting fires
@@ -36,10 +40,9 @@ module _ (s : Reading) (t : Trigger) (state : ℕ) (row : TransitionSymbol) (u v
         (false_does itself short waiting unless_stalled result v w not_short
         (true_does itself (is_stall_among row.actions s.machine.stall) waiting fires result v w (sym told ∙ is) waits))
 
-    pub row_fires : (stalls : Bool) → stalls ≡ is_stall_among row.actions s.machine.stall → short ≡ false → stalls ≡ false
-        → (next : ℕ) → next ≡ unwrap_or row.next state → DoesAs itself (fired s t state next row) result v w → DoesAs itself (row_tried s t state row) result u w
-    row_fires stalls told not_short not_stalled next is did =
-        then_does itself itself shortness after short result u v w found
-        (false_does itself short waiting unless_stalled result v w not_short
-        (false_does itself (is_stall_among row.actions s.machine.stall) waiting fires result v w (sym told ∙ not_stalled)
-        (subst (λ (n : ℕ). DoesAs itself (fired s t state n row) result v w) is did)))
+    module _ (stalls : Bool) (told : stalls ≡ is_stall_among row.actions s.machine.stall) (not_short : short ≡ false) (not_stalled : stalls ≡ false) where
+      pub row_goes_on : DoesAs itself fires result v w → DoesAs itself (row_tried s t state row) result u w
+      row_goes_on did =
+          then_does itself itself shortness after short result u v w found
+          (false_does itself short waiting unless_stalled result v w not_short
+          (false_does itself (is_stall_among row.actions s.machine.stall) waiting fires result v w (sym told ∙ not_stalled) did))

@@ -12,7 +12,7 @@ use acts::{Fault, Local, Trouble, again};
 use body_meaning::{About, Known, Scope, Tried, Trigger};
 use ruby_symbols::{MachineSymbols, TransitionSymbol};
 use run_journal::{FireNote, StopAt};
-use statement_walk::{permission_set, state_by, state_set};
+use statement_walk::{next_state, permission_set, state_by, state_set};
 use std::alloc::Global;
 
 fn about(t: Trigger) -> About
@@ -99,7 +99,8 @@ fn row_tried<T: Local>(
     if stalls {
         return waiting(local);
     }
-    fired(alloc, s, t, state, row.next.unwrap_or(state), row, local)
+    let next = next_state(alloc, s, t.address, state, row.next, local)?;
+    fired(alloc, s, t, state, next, row, local)
 }
 
 // Does what a `trigger` asks for.

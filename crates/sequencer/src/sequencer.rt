@@ -75,9 +75,7 @@ impl Sequencer {
         if requests <= self.room {
             return Ok(());
         }
-        let Some(answers) = self.outstanding.len().checked_add(requests) else {
-            return Err(NoMemory);
-        };
+        let answers = self.outstanding.len() + requests;
         self.outstanding.reserve(requests)?;
         self.finished.reserve(answers)?;
         self.room = requests;

@@ -2,8 +2,8 @@
 use Rattle.std.proofs.Common.{◌≡◌, ℕ, zero, suc, ◌≤◌, ◌==◌, true, false, List, [], ◌∷◌, length, refl, ◌⊎◌, inl, inr, arith}
 use Rattle.std.proofs.lemmas.Bool.{or_cases, or_left, or_right}
 use Rattle.slicc_ast.specs.declared.tree.token.Word.TheVariants.{Transition, Machine, If, Else}
-use Rattle.slicc_ast.specs.declared.tree.token.Sign.TheVariants.{Comma, OpenParenthesis, CloseParenthesis, Equals}
-use Rattle.slicc_ast.specs.Prelude.{has, Row, Rows, done, form, maybe, many, up, Extent, Matches, stopped, one, Covers, joined, Form, member_end, functional_end, machine_name, declaration, declaration_end, named_end, transition_end, statement, statement_end, conditional, otherwise, expression, conjunction, equality, order, sum, product, unary, postfix, primary, opening, name_end, other_name, machine_type, functional_name, word_kind, sign_kind, ◌▸◌, of, optional, repeated, names_of, machine_type_name, value, string, comma, colon, semicolon, assign, parentheses, braces, sums, orders, equalities, conjunctions, disjunctions, operators, written, table}
+use Rattle.slicc_ast.specs.declared.tree.token.Sign.TheVariants.{Comma, OpenParenthesis, CloseParenthesis, Equals, Star}
+use Rattle.slicc_ast.specs.Prelude.{has, Row, Rows, done, form, maybe, many, up, Extent, Matches, stopped, one, Covers, joined, Form, member_end, functional_end, machine_name, declaration, declaration_end, named_end, transition_end, statement, statement_end, conditional, otherwise, expression, conjunction, equality, order, sum, product, unary, postfix, primary, opening, name_end, other_name, machine_type, functional_name, word_kind, sign_kind, ◌▸◌, of, optional, repeated, names_of, machine_type_name, value, next_state, string, comma, colon, semicolon, assign, parentheses, braces, sums, orders, equalities, conjunctions, disjunctions, operators, written, table}
 use Rattle.slicc_ast.specs.Matches.Matches.{again, enough}
 use Rattle.slicc_ast.proofs.KindSets.{in_either}
 use Rattle.slicc_ast.proofs.Joining.{merge}
@@ -130,10 +130,14 @@ machine_rows = (
 abbrev next_part : Row Form
 next_part = (comma ▸ of transition_end) done
 
-transition_tail : (S : Rows Form) → To table S (optional (comma ▸ name) (pairs closed)) (optional (comma ▸ of transition_end) closed)
+transition_tail : (S : Rows Form) → To table S (optional (comma ▸ next_state) (pairs closed)) (optional (comma ▸ of transition_end) closed)
 transition_tail S =
-    maybe_to table ((comma ▸ name) done) (pairs closed) (optional (comma ▸ of transition_end) closed)
-    (then_to table (token_to table (sign_kind Comma ∷ []) (then_to table (token_to table names_of (to_absent table ((sign Equals ▸ value) done) (pairs closed))) (fold_to table transition_end 0 refl))) (to_present table next_part closed))
+    maybe_to table ((comma ▸ next_state) done) (pairs closed) (optional (comma ▸ of transition_end) closed)
+    (then_to table (token_to table (sign_kind Comma ∷ [])
+    (either_to table (sign_kind Star ∷ names_of) (sign_kind Star ∷ []) names_of (pairs closed) (form transition_end closed) (in_either (sign_kind Star ∷ []) names_of)
+    (fold_to table transition_end 2 refl)
+    (then_to table (token_to table names_of (to_absent table ((sign Equals ▸ value) done) (pairs closed))) (fold_to table transition_end 0 refl))))
+    (to_present table next_part closed))
     (many_to table ((comma ▸ of pair) done) closed (optional (comma ▸ of transition_end) closed)
     (then_to table (token_to table (sign_kind Comma ∷ [])
     (form_to table pair (pairs closed) (form transition_end closed) (
@@ -150,10 +154,10 @@ transition_rows : Each (IsFormCovered table transition) (written.alternatives tr
 transition_rows = (
   λ r S. then_to table (token_to table (word_kind Transition ∷ [])
       (nested_to table (sign_kind OpenParenthesis ∷ [])
-      ((of names ▸ comma ▸ of names ▸ optional (comma ▸ name) ▸ pairs) closed)
+      ((of names ▸ comma ▸ of names ▸ optional (comma ▸ next_state) ▸ pairs) closed)
       ((of names ▸ comma ▸ of names ▸ optional (comma ▸ of transition_end)) closed)
       (braces (repeated (name ▸ semicolon)) r)
-      (end_to table ((of names ▸ comma ▸ of names) done) (optional (comma ▸ name) (pairs closed)) (optional (comma ▸ of transition_end) closed)
+      (end_to table ((of names ▸ comma ▸ of names) done) (optional (comma ▸ next_state) (pairs closed)) (optional (comma ▸ of transition_end) closed)
       (transition_tail (up (braces (repeated (name ▸ semicolon)) r) S)))))
       (fold_to table transition 0 refl),
   tt,

@@ -1,8 +1,8 @@
 -- The rows of the table that one token ahead decides are turned into those of the written grammar.
 use Rattle.std.proofs.Common.{◌≡◌, ℕ, true, List, [], ◌∷◌, refl}
 use Rattle.slicc_ast.specs.declared.tree.token.Word.TheVariants.{Transition, Machine, If, Else}
-use Rattle.slicc_ast.specs.declared.tree.token.Sign.TheVariants.{Comma, OpenParenthesis, CloseParenthesis, Equals}
-use Rattle.slicc_ast.specs.Prelude.{is_subset, Row, Rows, done, form, maybe, many, up, Covers, joined, Form, member_end, functional_end, machine_name, declaration, declaration_end, named_end, transition_end, statement, statement_end, conditional, otherwise, expression, conjunction, equality, order, sum, product, unary, postfix, primary, constant, opening, name_end, other_name, machine_type, functional_name, word_kind, sign_kind, ◌▸◌, of, optional, repeated, names_of, type, plain_name, skipped_name, machine_type_name, value, string, comma, colon, semicolon, assign, parentheses, braces, products, sums, orders, equalities, conjunctions, disjunctions, operators, written, table}
+use Rattle.slicc_ast.specs.declared.tree.token.Sign.TheVariants.{Comma, OpenParenthesis, CloseParenthesis, Equals, Star}
+use Rattle.slicc_ast.specs.Prelude.{is_subset, Row, Rows, done, form, maybe, many, up, Covers, joined, Form, member_end, functional_end, machine_name, declaration, declaration_end, named_end, transition_end, statement, statement_end, conditional, otherwise, expression, conjunction, equality, order, sum, product, unary, postfix, primary, constant, opening, name_end, other_name, machine_type, functional_name, word_kind, sign_kind, ◌▸◌, of, optional, repeated, names_of, type, plain_name, skipped_name, machine_type_name, value, next_state, string, comma, colon, semicolon, assign, parentheses, braces, products, sums, orders, equalities, conjunctions, disjunctions, operators, written, table}
 use Rattle.slicc_ast.specs.Grammar.Row.{token}
 use Rattle.slicc_ast.proofs.Translating.{To, Each, IsFormCovered, covers_by, covered_by_itself, then_to, fold_to, form_to, token_to, wider_to, maybe_to, to_present, to_absent, to_again, to_enough, nested_to, end_to, form_end_to, maybe_end_to}
 use Rattle.slicc_ast.specs.Form.Form.{member, pair, machine, parameter, transition, names, formals, block, suffix}
@@ -134,7 +134,7 @@ machine_rows = (
 )
 
 abbrev written_tail : Row Form
-written_tail = optional (comma ▸ name) (pairs closed)
+written_tail = optional (comma ▸ next_state) (pairs closed)
 
 abbrev pair_part : Row Form
 pair_part = (comma ▸ of pair) done
@@ -143,7 +143,7 @@ abbrev given : Row Form
 given = (sign Equals ▸ value) done
 
 another_pair : (S : Rows Form) → To written S (joined pair_part (pairs closed)) written_tail
-another_pair S = then_to written (to_again written pair_part closed) (to_absent written ((comma ▸ name) done) (pairs closed))
+another_pair S = then_to written (to_again written pair_part closed) (to_absent written ((comma ▸ next_state) done) (pairs closed))
 
 transition_tail : (S : Rows Form) → To written S (optional (comma ▸ of transition_end) closed) written_tail
 transition_tail S =
@@ -152,20 +152,25 @@ transition_tail S =
     (then_to written (token_to written (sign_kind Comma ∷ []) (fold_to written pair 1 refl)) (another_pair S)) (
       maybe_end_to written ((comma ▸ name) done) given (pairs closed) written_tail
           (then_to written (token_to written (sign_kind Comma ∷ []) (fold_to written pair 0 refl)) (another_pair S))
-          (to_present written ((comma ▸ name) done) (pairs closed)),
+          (then_to written (token_to written (sign_kind Comma ∷ []) (wider_to written names_of (sign_kind Star ∷ names_of) (pairs closed) refl))
+          (to_present written ((comma ▸ next_state) done) (pairs closed))),
       (
         then_to written (token_to written (sign_kind Comma ∷ []) (fold_to written pair 1 refl)) (another_pair S),
-        tt,
+        (
+          then_to written (token_to written (sign_kind Comma ∷ []) (wider_to written (sign_kind Star ∷ []) (sign_kind Star ∷ names_of) (pairs closed) refl))
+              (to_present written ((comma ▸ next_state) done) (pairs closed)),
+          tt,
+        ),
       ),
     ))
-    (then_to written (to_enough written pair_part closed) (to_absent written ((comma ▸ name) done) (pairs closed)))
+    (then_to written (to_enough written pair_part closed) (to_absent written ((comma ▸ next_state) done) (pairs closed)))
 
 transition_rows : Each (IsFormCovered written transition) (table.alternatives transition)
 transition_rows = (
   λ r S. then_to written (token_to written (word_kind Transition ∷ [])
       (nested_to written (sign_kind OpenParenthesis ∷ [])
       ((of names ▸ comma ▸ of names ▸ optional (comma ▸ of transition_end)) closed)
-      ((of names ▸ comma ▸ of names ▸ optional (comma ▸ name) ▸ pairs) closed)
+      ((of names ▸ comma ▸ of names ▸ optional (comma ▸ next_state) ▸ pairs) closed)
       (braces (repeated (name ▸ semicolon)) r)
       (end_to written ((of names ▸ comma ▸ of names) done) (optional (comma ▸ of transition_end) closed) written_tail
       (transition_tail (up (braces (repeated (name ▸ semicolon)) r) S)))))

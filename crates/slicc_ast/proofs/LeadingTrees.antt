@@ -1,9 +1,9 @@
 -- What a declaration's, a machine's and a file's tree spells, before what stands behind it.
 use Rattle.std.proofs.Common.{◌≡◌, ℕ, ◌==◌, Bool, true, false, not, ◌||◌, List, [], ◌∷◌, ◌++◌, length, Option, Some, None, refl, sym, subst, inl, inr, codes}
 use Rattle.std.specs.Str.{bytes_eq}
-use Rattle.std.proofs.lemmas.Bool.{and_parts, not-true, false≢true, or_cases}
+use Rattle.std.proofs.lemmas.Bool.{and_parts, not-true, false≢true, or_cases, or_right}
 use Rattle.std.proofs.lemmas.Slice.Eq.{bytes_eq-Decides}
-use Rattle.slicc_ast.specs.declared.tree.token.Sign.TheVariants.{OpenBrace, OpenParenthesis, CloseParenthesis, Comma, Colon}
+use Rattle.slicc_ast.specs.declared.tree.token.Sign.TheVariants.{OpenBrace, OpenParenthesis, CloseParenthesis, Comma, Colon, Star}
 use Rattle.slicc_ast.specs.declared.tree.token.Word.TheVariants.{Protocol}
 use Rattle.slicc_ast.specs.declared.tree.declaration.Pair.{Pair}
 use Rattle.slicc_ast.specs.declared.tree.name.Name.{Name}
@@ -29,12 +29,14 @@ use Rattle.slicc_ast.specs.declared.tree.machine.Literal.TheVariants.{Number, Mi
 use Rattle.slicc_ast.specs.declared.tree.machine.Machine.{Machine}
 use Rattle.slicc_ast.specs.declared.tree.machine.Names.{Names}
 use Rattle.slicc_ast.specs.declared.tree.machine.Names.TheVariants.{One, Several}
+use Rattle.slicc_ast.specs.declared.tree.machine.NextState.{NextState}
+use Rattle.slicc_ast.specs.declared.tree.machine.NextState.TheVariants.{Named as NamedState, Asked}
 use Rattle.slicc_ast.specs.declared.tree.machine.Object.{Object}
 use Rattle.slicc_ast.specs.declared.tree.machine.OutPort.{OutPort}
 use Rattle.slicc_ast.specs.declared.tree.machine.Parameter.{Parameter}
 use Rattle.slicc_ast.specs.declared.tree.machine.Transition.{Transition}
 use Rattle.slicc_ast.specs.declared.tree.statement.Block.{Block}
-use Rattle.slicc_ast.specs.Prelude.{Parts, none, provided, is_allowed, are_allowed, balanced_list, pair_list, formal_list, is_skipped, skipped, symbol_list, state_list, member_list, stmt_list, block_end, more_names, name_list, next_parts, action_list, function_body, function, object, decl, literal_parts, parameter_list, decl_list, type_parts, item_list, protocol_parts, tree, has, Row, Rows, done, form, maybe, many, nested, end, up, Derives, Whole, ended, one, Form, name_kind, functional_name, end_of_text, sign_kind, spelling, of, ◌▸◌, comma, colon, semicolon, assign, string, machine_type_name, end_token, written}
+use Rattle.slicc_ast.specs.Prelude.{Parts, none, provided, is_allowed, are_allowed, balanced_list, pair_list, formal_list, is_skipped, skipped, symbol_list, state_list, member_list, stmt_list, block_end, more_names, name_list, next_parts, action_list, function_body, function, object, decl, literal_parts, parameter_list, decl_list, type_parts, item_list, protocol_parts, tree, has, Row, Rows, done, form, maybe, many, nested, end, up, Derives, Whole, ended, one, Form, name_kind, functional_name, end_of_text, sign_kind, spelling, of, ◌▸◌, comma, colon, semicolon, assign, string, machine_type_name, names_of, next_state, end_token, written}
 use Rattle.slicc_ast.specs.Names.{sign}
 use Rattle.slicc_ast.specs.Declarations.{enumeration, states, member, structure}
 use Rattle.slicc_ast.specs.Machines.{out_port, in_port, action, names, transition, literal, parameter, machine}
@@ -171,9 +173,14 @@ names_lead (Several ns span) parts allowed r S rest o m =
     let some = and_parts (not (length ns == 0)) _ both.0 in
     several_lead ns some.0 r S _ o (m both.1)
 
-next_leads : (n : Option Name) (parts : Parts) (r : Row Form) (S : Rows Form) (rest : List ℕ) (o : ℕ) → Fits r S (follow_parts parts rest) o → Fits (maybe one_name r) S (follow_parts (next_parts n parts) rest) o
+abbrev one_next : Row Form
+one_next = (comma ▸ next_state) done
+
+next_leads : (n : Option NextState) (parts : Parts) (r : Row Form) (S : Rows Form) (rest : List ℕ) (o : ℕ) → Fits r S (follow_parts parts rest) o → Fits (maybe one_next r) S (follow_parts (next_parts n parts) rest) o
 next_leads None parts r S rest o m = absent m
-next_leads (Some n) parts r S rest o m = to_present written one_name r Whole _ o (one refl (one (name_is_one n.text) m))
+next_leads (Some (NamedState n)) parts r S rest o m =
+    to_present written one_next r Whole _ o (one refl (one (or_right (sign_kind Star == name_kind n.text) (has names_of (name_kind n.text)) (name_is_one n.text)) m))
+next_leads (Some (Asked span)) parts r S rest o m = to_present written one_next r Whole _ o (one refl (one refl m))
 
 abbrev one_action : Row Form
 one_action = (name ▸ semicolon) done

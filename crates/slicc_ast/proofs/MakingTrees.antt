@@ -29,6 +29,8 @@ use Rattle.slicc_ast.specs.declared.tree.machine.Literal.{Literal}
 use Rattle.slicc_ast.specs.declared.tree.machine.Machine.{Machine}
 use Rattle.slicc_ast.specs.declared.tree.machine.Names.{Names}
 use Rattle.slicc_ast.specs.declared.tree.machine.Names.TheVariants.{One, Several}
+use Rattle.slicc_ast.specs.declared.tree.machine.NextState.{NextState}
+use Rattle.slicc_ast.specs.declared.tree.machine.NextState.TheVariants.{Named as NamedState, Asked}
 use Rattle.slicc_ast.specs.declared.tree.machine.Object.{Object}
 use Rattle.slicc_ast.specs.declared.tree.machine.OutPort.{OutPort}
 use Rattle.slicc_ast.specs.declared.tree.machine.Parameter.{Parameter}
@@ -177,15 +179,23 @@ then_no_next {row = row} {rows = rows} {parts = parts} span (Named key v within 
           (c.makes both.1 R S rest _ to m)))))))))));
     }
 
-then_next : {row : Place} {rows : Behind} {parts : Parts} (n : Option Name) (p : Pairs) → Closes row rows parts → Closes (λ R S. at begin (optional (comma ▸ of Form.transition_end) (at close (row R S)))) rows (next_parts n (pairs_parts p parts))
+then_next : {row : Place} {rows : Behind} {parts : Parts} (n : Option NextState) (p : Pairs) → Closes row rows parts → Closes (λ R S. at begin (optional (comma ▸ of Form.transition_end) (at close (row R S)))) rows (next_parts n (pairs_parts p parts))
 then_next None p c = then_no_next p.span p.items c
-then_next {row = row} {rows = rows} {parts = parts} (Some n) p c =
+then_next {row = row} {rows = rows} {parts = parts} (Some (NamedState n)) p c =
     record {
       makes = λ allowed R S rest s to m.
           let both = and_parts (are_allowed (pair_list p.items)) (are_allowed parts) allowed in
           marked (present (one refl (alternative 0 _ refl (any_name n.text (marked (absent
           ((end_of_list p.items).makes both.0 (row R S) (rows R S) (spelled_in parts rest) _ to
           (c.makes both.1 R S rest _ to m))))))));
+    }
+then_next {row = row} {rows = rows} {parts = parts} (Some (Asked span)) p c =
+    record {
+      makes = λ allowed R S rest s to m.
+          let both = and_parts (are_allowed (pair_list p.items)) (are_allowed parts) allowed in
+          marked (present (one refl (alternative 2 _ refl (marked (one refl (marked (marked
+          ((end_of_list p.items).makes both.0 (row R S) (rows R S) (spelled_in parts rest) _ to
+          (c.makes both.1 R S rest _ to m)))))))));
     }
 
 abbrev one_action : Row Step

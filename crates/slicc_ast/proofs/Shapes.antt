@@ -282,6 +282,7 @@ shape_rows transition =
 shape_rows transition_end =
     (name ▸ at later ▸ optional (at sooner ▸ sign Equals ▸ Row.form value ▸ at close) ▸ more_pairs) Row.done
     ∷ (whole string ▸ more_pairs) Row.done
+    ∷ (whole (sign Star) ▸ at later ▸ more_pairs) Row.done
     ∷ []
 shape_rows names =
     name Row.done

@@ -15,6 +15,8 @@ use Rattle.slicc_ast.specs.declared.tree.machine.Parameter.{Parameter}
 use Rattle.slicc_ast.specs.declared.tree.name.Name.{Name}
 use Rattle.slicc_ast.specs.declared.tree.machine.Names.{Names}
 use Rattle.slicc_ast.specs.declared.tree.machine.Names.TheVariants.{One, Several}
+use Rattle.slicc_ast.specs.declared.tree.machine.NextState.{NextState}
+use Rattle.slicc_ast.specs.declared.tree.machine.NextState.TheVariants.{Named as NamedState, Asked}
 use Rattle.slicc_ast.specs.declared.tree.token.Sign.TheVariants.{CloseBrace}
 use Rattle.slicc_ast.specs.declared.tree.span.Span.{Span}
 use Rattle.slicc_ast.specs.Prelude.{Parts, none, spans_of, spans_in, symbol_spans, state_spans, balanced_row, balanced_list, pair_list, more_formals, formal_list, symbol_list, state_list, member_list, literal_parts, parameter_list, decl, decl_list, more_names, name_list, action_list, next_parts, type_parts, item_list}
@@ -106,9 +108,10 @@ pub names_behind : (n : Names) (parts : Parts) → spans_in (names n parts) ≡ 
 names_behind (One n) parts = refl
 names_behind (Several ns span) parts = ap (λ xs. xs ++ spans_in parts) (sym (append-nil (span ∷ spans_in (name_list ns (sign CloseBrace none)))))
 
-pub next_behind : (n : Option Name) (parts : Parts) → spans_in (next_parts n parts) ≡ spans_in (next_parts n none) ++ spans_in parts
+pub next_behind : (n : Option NextState) (parts : Parts) → spans_in (next_parts n parts) ≡ spans_in (next_parts n none) ++ spans_in parts
 next_behind None parts = refl
-next_behind (Some n) parts = refl
+next_behind (Some (NamedState n)) parts = refl
+next_behind (Some (Asked span)) parts = refl
 
 pub star_spans : (b : Bool) (parts : Parts) → spans_in (star b parts) ≡ spans_in parts
 star_spans true parts = refl

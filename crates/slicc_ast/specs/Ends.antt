@@ -37,6 +37,7 @@ rows_behind transition_end =
     rows (
     name ▸ optional (sign Equals ▸ value) ▸ pairs
     ∷ string ▸ pairs
+    ∷ star ▸ pairs
     ∷ [])
 rows_behind statement_end =
     rows (

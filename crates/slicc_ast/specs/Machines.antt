@@ -2,7 +2,7 @@
 use Rattle.std.specs.Prelude.{◌==◌, Bool, true, false, not, Option, Some, None, List, [], ◌∷◌, length, codes}
 use Rattle.slicc_ast.specs.declared.tree.token.TokenKind.TheVariants.{Name as Named, Number, Quoted}
 use Rattle.slicc_ast.specs.declared.tree.token.Word.TheVariants.{Machine as MachineWord, InPort as InPortWord, OutPort as OutPortWord, Action as ActionWord, Transition as TransitionWord, True as TrueWord, False as FalseWord}
-use Rattle.slicc_ast.specs.declared.tree.token.Sign.TheVariants.{OpenBrace, CloseBrace, OpenParenthesis, CloseParenthesis, Semicolon, Colon, Comma, Minus as MinusSign, Assign}
+use Rattle.slicc_ast.specs.declared.tree.token.Sign.TheVariants.{OpenBrace, CloseBrace, OpenParenthesis, CloseParenthesis, Semicolon, Colon, Comma, Minus as MinusSign, Star, Assign}
 use Rattle.slicc_ast.specs.declared.tree.name.Name.{Name}
 use Rattle.slicc_ast.specs.declared.tree.statement.Block.{Block}
 use Rattle.slicc_ast.specs.declared.tree.declaration.Function.{Function}
@@ -17,6 +17,8 @@ use Rattle.slicc_ast.specs.declared.tree.machine.OutPort.{OutPort}
 use Rattle.slicc_ast.specs.declared.tree.machine.InPort.{InPort}
 use Rattle.slicc_ast.specs.declared.tree.machine.Action.{Action}
 use Rattle.slicc_ast.specs.declared.tree.machine.Transition.{Transition}
+use Rattle.slicc_ast.specs.declared.tree.machine.NextState.{NextState}
+use Rattle.slicc_ast.specs.declared.tree.machine.NextState.TheVariants.{Named as NamedState, Asked}
 use Rattle.slicc_ast.specs.declared.tree.machine.Names.{Names}
 use Rattle.slicc_ast.specs.declared.tree.machine.Names.TheVariants.{One, Several}
 use Rattle.slicc_ast.specs.declared.tree.machine.Object.{Object}
@@ -57,17 +59,18 @@ names (One n) parts = name n parts
 names (Several ns span) parts =
     part (node span (provided (not (length ns == 0)) (sign OpenBrace (name_list ns (sign CloseBrace none))))) parts
 
--- [ , NAME ]
-abbrev pub next_parts : Option Name → Parts → Parts
+-- [ , ( NAME | * ) ]
+abbrev pub next_parts : Option NextState → Parts → Parts
 next_parts None parts = parts
-next_parts (Some n) parts = sign Comma (name n parts)
+next_parts (Some (NamedState n)) parts = sign Comma (name n parts)
+next_parts (Some (Asked span)) parts = sign Comma (part (node span (sign Star none)) parts)
 
 -- NAME ;
 abbrev pub action_list : List Name → Parts → Parts
 action_list [] parts = parts
 action_list (first ∷ others) parts = name first (sign Semicolon (action_list others parts))
 
--- trans := transition ( names , names [ , NAME ] pairs ) { actions }
+-- trans := transition ( names , names [ , ( NAME | * ) ] pairs ) { actions }
 abbrev pub transition : Transition → Outline
 transition t =
     node t.span (word TransitionWord (sign OpenParenthesis (names t.states (sign Comma (names t.events

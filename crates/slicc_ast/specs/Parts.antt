@@ -69,6 +69,10 @@ other_than_machine_type = token (other_name ∷ functional_name ∷ [])
 abbrev pub value : Part
 value = token (quoted ∷ number ∷ names_of)
 
+-- the next state of a transition: a name, or a star
+abbrev pub next_state : Part
+next_state = token (sign_kind Star ∷ names_of)
+
 abbrev pub number_token : Part
 number_token = token (number ∷ [])
 

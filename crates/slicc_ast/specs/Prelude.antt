@@ -12,7 +12,7 @@ pub use Rattle.slicc_ast.specs.Spans.{else_if_spans, operand_spans, state_spans,
 pub use Rattle.slicc_ast.specs.TokenKinds.{end_of_text, functional_name, kind_of, machine_type, name_kind, number, other_name, quoted, sign_kind, word_kind}
 pub use Rattle.slicc_ast.specs.Form.{Form, all_forms}
 pub use Rattle.slicc_ast.specs.Form.Form.{arguments, body, conditional, conjunction, constant, declaration, declaration_end, equality, expression, file, functional_end, machine_name, member_end, name_end, named_end, opening, order, otherwise, postfix, primary, product, statement, statement_end, sum, transition_end, unary}
-pub use Rattle.slicc_ast.specs.Parts.{assign, braces, colon, comma, conjunctions, disjunctions, end_token, equalities, machine_type_name, names_of, number_token, of, operators, optional, orders, parentheses, plain_name, prefixed, products, repeated, semicolon, skipped_name, string, sums, type, unbracketed, value, words, ◌▸◌}
+pub use Rattle.slicc_ast.specs.Parts.{assign, braces, colon, comma, conjunctions, disjunctions, end_token, equalities, machine_type_name, names_of, next_state, number_token, of, operators, optional, orders, parentheses, plain_name, prefixed, products, repeated, semicolon, skipped_name, string, sums, type, unbracketed, value, words, ◌▸◌}
 pub use Rattle.slicc_ast.specs.Ahead.{first_of_constant, first_of_expression, first_of_form, first_of_opening, further_of_form}
 pub use Rattle.slicc_ast.specs.Written.{openers, written, written_rows}
 pub use Rattle.slicc_ast.specs.Table.{table}

@@ -10,7 +10,7 @@ use Rattle.slicc_ast.specs.Grammar.{Row, Grammar}
 use Rattle.slicc_ast.specs.Form.{Form}
 use Rattle.slicc_ast.specs.Form.Form.{file, item, enumeration, states, structure, member, pair, machine, parameter, literal, declaration, body, out_port, in_port, action, transition, names, formals, formal, block, statement, conditional, expression, conjunction, equality, order, sum, product, unary, postfix, primary, constant, suffix, arguments, balanced_part}
 use Rattle.slicc_ast.specs.TokenKinds.{sign_kind}
-use Rattle.slicc_ast.specs.Parts.{◌▸◌, rows, of, optional, repeated, word, sign, words, name, type, plain_name, skipped_name, machine_type_name, value, number_token, string, end_token, comma, colon, semicolon, assign, star, parentheses, braces, brackets, prefixed, pairs, balanced, products, sums, orders, equalities, conjunctions, disjunctions, unbracketed}
+use Rattle.slicc_ast.specs.Parts.{◌▸◌, rows, of, optional, repeated, word, sign, words, name, type, plain_name, skipped_name, machine_type_name, value, next_state, number_token, string, end_token, comma, colon, semicolon, assign, star, parentheses, braces, brackets, prefixed, pairs, balanced, products, sums, orders, equalities, conjunctions, disjunctions, unbracketed}
 use Rattle.slicc_ast.specs.Ends.{rows_behind}
 use Rattle.slicc_ast.specs.Ahead.{first_of_form, further_of_form}
 
@@ -78,7 +78,7 @@ written_rows in_port =
 written_rows action = rows (word Action ▸ parentheses (name ▸ pairs) ▸ of block ∷ [])
 written_rows transition =
     rows (
-    word Transition ▸ parentheses (of names ▸ comma ▸ of names ▸ optional (comma ▸ name) ▸ pairs)
+    word Transition ▸ parentheses (of names ▸ comma ▸ of names ▸ optional (comma ▸ next_state) ▸ pairs)
     ▸ braces (repeated (name ▸ semicolon))
     ∷ [])
 written_rows names =

@@ -20,7 +20,8 @@ pub use declaration::{
 pub use expression::{Args, Expr, Operand, Operator, Suffix};
 pub use item::{Item, Tree};
 pub use machine::{
-    Action, Decl, InPort, Literal, Machine, Names, Object, OutPort, Parameter, Transition,
+    Action, Decl, InPort, Literal, Machine, Names, NextState, Object, OutPort, Parameter,
+    Transition,
 };
 pub use name::{Name, TypeName};
 pub use span::Span;

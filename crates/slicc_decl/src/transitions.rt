@@ -1,15 +1,15 @@
-//! Transitions. Behind the events a name is the next state where no `=` is behind it, and the key of an attribute else, so
-//! what is behind that comma is read before it is known whose comma it was.
+//! Transitions. Behind the events a star is the next state, and so is a name where no `=` is behind it; else that is the key of
+//! an attribute, so what is behind that comma is read before it is known whose comma it was.
 ghost use Rattle.std.specs.Prelude.{◌≡◌, ◌∷◌, ◌<◌, [], true, length, IfOk, MatchResult};
-ghost use Rattle.slicc_ast.specs.Prelude.{is_ahead, pair_list, action_list, next_parts, node, none, transition_end, ◌▸◌, braces, comma, of, optional, parentheses, repeated, string, value, sign_kind};
+ghost use Rattle.slicc_ast.specs.Prelude.{is_ahead, pair_list, action_list, next_parts, node, none, part, transition_end, ◌▸◌, braces, comma, of, optional, parentheses, repeated, string, value, sign_kind};
 ghost use Rattle.slicc_ast.specs.Declarations.{pair, pairs as pairs_of};
 ghost use Rattle.slicc_ast.specs.Machines.{names, transition};
 ghost use Rattle.slicc_ast.specs.Names.{sign as sign_of};
 ghost use Rattle.slicc_ast.specs.Outline.{token};
 ghost use Rattle.slicc_ast.specs.declared.tree.token.TokenKind.TheVariants.{Name as Named};
-ghost use Rattle.slicc_ast.specs.declared.tree.token.Sign.TheVariants.{CloseBrace, CloseParenthesis, Comma, Equals, OpenBrace, OpenParenthesis};
+ghost use Rattle.slicc_ast.specs.declared.tree.token.Sign.TheVariants.{CloseBrace, CloseParenthesis, Comma, Equals, OpenBrace, OpenParenthesis, Star};
 ghost use Rattle.slicc_ast.specs.Form.Form.{names as names_form, transition as transition_form};
-ghost use Rattle.slicc_ast.specs.Parts.{name as name_part, pairs as pairs_part, sign as sign_part};
+ghost use Rattle.slicc_ast.specs.Parts.{name as name_part, pairs as pairs_part, sign as sign_part, star};
 ghost use Rattle.slicc_lex.specs.Prelude.{symbols};
 ghost use Rattle.slicc_reading.specs.Prelude.{AreRead, IsRead, IsSpelledBefore, Refuses};
 ghost use Rattle.slicc_decl.specs.Members.{action_row, pair_parts, transition_inside};
@@ -17,7 +17,7 @@ ghost use Rattle.slicc_decl.specs.Members.{action_row, pair_parts, transition_in
 use crate::heads::{ReadBoth, ended_by};
 use crate::signatures::names;
 use slicc_ast::Seq;
-use slicc_ast::tree::{Name, Names, Pair, Pairs, Sign, Transition, Word};
+use slicc_ast::tree::{Name, Names, NextState, Pair, Pairs, Sign, Span, Transition, Word};
 use slicc_lex::Token;
 use slicc_reading::{
     Fault, Read, added, assigned, ended, is_name, is_sign, is_string, is_word, name, next_pair,
@@ -98,13 +98,31 @@ fn valued_end<'t>(
     }
 }
 
+/// A star, with its place, and attributes.
+fn asked_end(alloc: Global, room: u32, tokens: &[Token]) -> ReadBoth<Span, Pairs>
+    ensures { MatchResult result
+        (λ read. AreRead room (star ▸ pairs_part) (λ others. part (node read.0 (sign_of Star none)) (pairs_of read.1 others)) tokens.now read.2.now)
+        (Refuses room (star ▸ pairs_part) tokens.now) }
+{
+    match sign(room, Sign::Star, tokens) {
+        Ok(behind) => {
+            let place = span(tokens, behind);
+            match pairs(alloc, room, behind) {
+                Ok((pairs, left)) => Ok((place, pairs, left)),
+                Err(fault) => Err(fault),
+            }
+        }
+        Err(fault) => Err(fault),
+    }
+}
+
 /// The next state and attributes, or attributes alone, behind the comma at `start`.
 fn transition_end<'t>(
     alloc: Global,
     room: u32,
     start: &[Token],
     tokens: &'t [Token],
-) -> ReadBoth<'t, Option<Name>, Pairs>
+) -> ReadBoth<'t, Option<NextState>, Pairs>
     requires { AreRead room comma (sign_of Comma) start.now tokens.now }
     ensures { MatchResult result
         (λ read. AreRead room (comma ▸ of transition_end) (λ others. next_parts read.0 (pairs_of read.1 others)) start.now read.2.now)
@@ -113,6 +131,12 @@ fn transition_end<'t>(
     if is_string(tokens) {
         return match bare_end(alloc, room, start, tokens) {
             Ok((pairs, left)) => Ok((None, pairs, left)),
+            Err(fault) => Err(fault),
+        };
+    }
+    if is_sign(Sign::Star, tokens) {
+        return match asked_end(alloc, room, tokens) {
+            Ok((place, pairs, left)) => Ok((Some(NextState::Asked(place)), pairs, left)),
             Err(fault) => Err(fault),
         };
     }
@@ -128,7 +152,7 @@ fn transition_end<'t>(
                 };
             }
             match pairs(alloc, room, behind) {
-                Ok((pairs, left)) => Ok((Some(called), pairs, left)),
+                Ok((pairs, left)) => Ok((Some(NextState::Named(called)), pairs, left)),
                 Err(fault) => {
                     drop(called);
                     Err(fault)
@@ -140,7 +164,7 @@ fn transition_end<'t>(
 }
 
 /// The next state where there is one, and attributes.
-fn optional_end(alloc: Global, room: u32, tokens: &[Token]) -> ReadBoth<Option<Name>, Pairs>
+fn optional_end(alloc: Global, room: u32, tokens: &[Token]) -> ReadBoth<Option<NextState>, Pairs>
     ensures { MatchResult result
         (λ read. AreRead room (optional (comma ▸ of transition_end)) (λ others. next_parts read.0 (pairs_of read.1 others)) tokens.now read.2.now)
         (Refuses room (optional (comma ▸ of transition_end)) tokens.now) }
@@ -161,7 +185,7 @@ fn optional_end(alloc: Global, room: u32, tokens: &[Token]) -> ReadBoth<Option<N
 pub struct TransitionHead {
     pub states: Names,
     pub events: Names,
-    pub next: Option<Name>,
+    pub next: Option<NextState>,
     pub pairs: Pairs,
 }
 

@@ -31,6 +31,8 @@ use Rattle.slicc_ast.specs.declared.tree.machine.Action.{Action}
 use Rattle.slicc_ast.specs.declared.tree.machine.Transition.{Transition}
 use Rattle.slicc_ast.specs.declared.tree.machine.Names.{Names}
 use Rattle.slicc_ast.specs.declared.tree.machine.Names.TheVariants.{One, Several}
+use Rattle.slicc_ast.specs.declared.tree.machine.NextState.{NextState}
+use Rattle.slicc_ast.specs.declared.tree.machine.NextState.TheVariants.{Named as NamedState, Asked}
 use Rattle.slicc_ast.specs.declared.tree.machine.Object.{Object}
 use Rattle.slicc_ast.specs.Outline.{token}
 use Rattle.slicc_ast.specs.Prelude.{Outline, node, Parts, none, part, provided, is_allowed, are_allowed, pair_list, is_skipped, skipped, block_outline, more_names, name_list, next_parts, action_list, function_body, function, object, decl, parameter_list, decl_list}
@@ -138,9 +140,16 @@ names_again (One n) = refl
 names_again (Several ns span) = ap (λ (xs : List Name). Several xs span) (name_list_again ns)
 
 -- transitions
+abbrev next_by : Outline → Bool → NextState
+next_by o true = Asked (span_of o)
+next_by o false = NamedState (name_from o)
+
+abbrev next_from : Outline → NextState
+next_from o = next_by o (begins_with_sign (parts_of o))
+
 abbrev transition_by : Span → Names → Names → List Outline → Bool → Transition
 transition_by span froms events outlines true =
-    record { states = froms; events = events; next = Some (name_from (first outlines)); pairs = pairs_from (second outlines); actions = names_in (others (others outlines)); span = span }
+    record { states = froms; events = events; next = Some (next_from (first outlines)); pairs = pairs_from (second outlines); actions = names_in (others (others outlines)); span = span }
 transition_by span froms events outlines false =
     record { states = froms; events = events; next = None; pairs = pairs_from (first outlines); actions = names_in (others outlines); span = span }
 
@@ -158,14 +167,16 @@ transition_again t =
     ∙ ap₂ (λ (a b : Names). transition_by t.span a b (nodes_in (bare_in behind)) (is_token (bare_in behind))) (names_again t.states) (names_again t.events)
     ∙ at t.states t.events t.next t.pairs t.actions t.span
   where
-    at : (froms events : Names) (next : Option Name) (attributes : Pairs) (actions : List Name) (span : Span)
+    at : (froms events : Names) (next : Option NextState) (attributes : Pairs) (actions : List Name) (span : Span)
         → transition_by span froms events (nodes_in (bare_in (next_parts next (pairs attributes (sign CloseParenthesis (sign OpenBrace (action_list actions (sign CloseBrace none))))))))
         (is_token (bare_in (next_parts next (pairs attributes (sign CloseParenthesis (sign OpenBrace (action_list actions (sign CloseBrace none))))))))
         ≡ record { states = froms; events = events; next = next; pairs = attributes; actions = actions; span = span }
     at froms events None attributes actions span =
         ap₂ (λ (x : Pairs) (xs : List Name). record { states = froms; events = events; next = None; pairs = x; actions = xs; span = span }) (pairs_again attributes) (action_list_again actions)
-    at froms events (Some n) attributes actions span =
-        ap₂ (λ (x : Pairs) (xs : List Name). record { states = froms; events = events; next = Some n; pairs = x; actions = xs; span = span }) (pairs_again attributes) (action_list_again actions)
+    at froms events (Some (NamedState n)) attributes actions span =
+        ap₂ (λ (x : Pairs) (xs : List Name). record { states = froms; events = events; next = Some (NamedState n); pairs = x; actions = xs; span = span }) (pairs_again attributes) (action_list_again actions)
+    at froms events (Some (Asked place)) attributes actions span =
+        ap₂ (λ (x : Pairs) (xs : List Name). record { states = froms; events = events; next = Some (Asked place); pairs = x; actions = xs; span = span }) (pairs_again attributes) (action_list_again actions)
 
 -- functions: one that is skipped has one of two names
 abbrev body_in : List Outline → Option Block

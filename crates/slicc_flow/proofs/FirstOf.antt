@@ -6,7 +6,7 @@ use Rattle.slicc_ast.specs.declared.tree.span.Span.{Span}
 use Rattle.slicc_plan.specs.declared.broken.Broken.{Broken}
 use Rattle.slicc_plan.specs.declared.broken.Rule.TheVariants.{Changes}
 use Rattle.slicc_plan.specs.declared.part.Body.{Body}
-use Rattle.slicc_plan.specs.Prelude.{function_size, large_at, size_with, whole_size, circle_at, circles_from, is_reached, first_after, call_of, changes_at, reached_changes, reading_calls}
+use Rattle.slicc_plan.specs.Prelude.{function_size, large_at, size_with, whole_size, circle_at, circles_from, is_reached, first_after, changes_at, reached_changes, reading_calls}
 use Rattle.slicc_plan.proofs.Firsts.{first_after-append, first_after-flat_map}
 use Rattle.slicc_flow.specs.Prelude.{AreSizes, capped}
 use Rattle.slicc_flow.proofs.Caps.{capped_sum}
@@ -34,11 +34,11 @@ changes_step number places i d o p start below is next =
     ∙ sym (first_after-append start (changes_in number (take i places)) (changes_in number (get_or places i d ∷ [])))
     ∙ ap (first_after start) (sym (map-append (λ (place : Span). record { rule = Changes; machine = number; place = place; other = None }) (take i places) (get_or places i d ∷ [])) ∙ ap (changes_in number) (sym (take_more places i d below)))
 
-pub readers_step : (ports : List Body) (state : Option ℕ) (i : ℕ) (d : Body) (old new : List ℕ) → i < length ports → old ≡ reading_calls (take i ports) state → new ≡ old ++ (get_or ports i d).calls → new ≡ reading_calls (take (i + 1) ports) state
-readers_step ports state i d old new below is next =
+pub readers_step : (ports : List Body) (asked : List ℕ) (i : ℕ) (d : Body) (old new : List ℕ) → i < length ports → old ≡ reading_calls (take i ports) asked → new ≡ old ++ (get_or ports i d).calls → new ≡ reading_calls (take (i + 1) ports) asked
+readers_step ports asked i d old new below is next =
     next ∙ ap (λ xs. xs ++ (get_or ports i d).calls) is
-    ∙ append_assoc (call_of state) (flat_map (λ (b : Body). b.calls) (take i ports)) (get_or ports i d).calls
-    ∙ ap (λ xs. call_of state ++ xs)
+    ∙ append_assoc asked (flat_map (λ (b : Body). b.calls) (take i ports)) (get_or ports i d).calls
+    ∙ ap (λ xs. asked ++ xs)
     (ap (λ xs. flat_map (λ (b : Body). b.calls) (take i ports) ++ xs) (sym (append-nil (get_or ports i d).calls))
     ∙ sym (flat_map-append (λ (b : Body). b.calls) (take i ports) (get_or ports i d ∷ [])) ∙ ap (flat_map (λ (b : Body). b.calls)) (sym (take_more ports i d below)))
 

@@ -1,3 +1,4 @@
+mod Asked
 pub mod Caps
 pub mod Checked
 pub mod FirstOf

@@ -1,10 +1,10 @@
 -- The bodies of machines, and what the rules of flow find in them. Machines are numbered in the order of the text.
-use Rattle.std.specs.Prelude.{ℕ, ◌+◌, ◌++◌, List, [], ◌∷◌, codes, map}
+use Rattle.std.specs.Prelude.{ℕ, ◌+◌, ◌++◌, List, [], ◌∷◌, map}
 use Rattle.slicc_ast.specs.declared.tree.item.Tree.{Tree}
 use Rattle.slicc_ast.specs.declared.tree.machine.Machine.{Machine}
 use Rattle.slicc_plan.specs.declared.broken.Broken.{Broken}
 use Rattle.slicc_plan.specs.BodyParts.{names_in}
-use Rattle.slicc_plan.specs.Prelude.{Names, bodies_of, number_in, written_actions, written_functions, written_ports, large_among, circles_among, Scope, everywhere, within, machines_of, changes_among}
+use Rattle.slicc_plan.specs.Prelude.{Names, asked_functions, bodies_of, written_actions, written_functions, written_ports, large_among, circles_among, Scope, everywhere, within, machines_of, changes_among}
 use Rattle.declared_types.specs.Prelude.{scope_at}
 use Rattle.slicc_flow.specs.declared.machine.MachineBodies.{MachineBodies}
 use Rattle.slicc_flow.specs.Checks.{checks_with}
@@ -16,7 +16,7 @@ bodies_with names m =
       functions = bodies_of names (written_functions m);
       actions = bodies_of names (written_actions m);
       ports = bodies_of names (written_ports m);
-      state = number_in names.functions (codes "getState");
+      asked = asked_functions names.functions m;
       checks = checks_with (bodies_of names (written_actions m)) m;
     }
 
@@ -51,7 +51,7 @@ large_of number b =
     ++ large_among number b.functions b.ports
 
 abbrev pub changes_of : ℕ → MachineBodies → List Broken
-changes_of number b = changes_among number b.functions b.ports b.state
+changes_of number b = changes_among number b.functions b.ports b.asked
 
 -- what these machines break of the rules of flow
 abbrev pub found_in : List MachineBodies → List Broken

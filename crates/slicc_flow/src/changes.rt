@@ -63,32 +63,29 @@ fn seen_changes(
     first
 }
 
-fn calls_of_readers(alloc: Global, ports: &[Body], state: Option<u32>) -> Result<Seq<u32>, NoMemory>
-    ensures { IfOk result (λ r. r ≡ reading_calls ports.now state) }
+fn calls_of_readers(alloc: Global, ports: &[Body], asked: &[u32]) -> Result<Seq<u32>, NoMemory>
+    ensures { IfOk result (λ r. r ≡ reading_calls ports.now asked.now) }
 {
-    let mut calls = Seq::new(alloc);
-    if let Some(k) = state {
-        calls.push(k)?;
-    }
+    let mut calls = Seq::copied(alloc, asked)?;
     for b in ports {
         calls.append(b.calls.as_slice())?;
     }
     Ok(calls)
 }
 
-/// The first broken rule after those that what only reads breaks by changing something: the ports of a machine, its function
-/// `state` and the functions that they call.
+/// The first broken rule after those that what only reads breaks by changing something: the ports of a machine, its functions
+/// that are `asked` and the functions that they call.
 pub fn reading_changes(
     alloc: Global,
     first: Option<Broken>,
     machine: u16,
     functions: &[Body],
     ports: &[Body],
-    state: Option<u32>,
+    asked: &[u32],
 ) -> Result<Option<Broken>, NoMemory>
-    ensures { IfOk result (λ r. r ≡ first_after first (changes_among machine functions.now ports.now state)) }
+    ensures { IfOk result (λ r. r ≡ first_after first (changes_among machine functions.now ports.now asked.now)) }
 {
-    let calls = calls_of_readers(alloc, ports, state)?;
+    let calls = calls_of_readers(alloc, ports, asked)?;
     let seen = reached(alloc, functions, &calls)?;
     let first = port_changes(first, machine, ports);
     Ok(seen_changes(first, machine, functions, &seen, &calls))

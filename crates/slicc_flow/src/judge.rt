@@ -85,7 +85,14 @@ fn all_changes(
 {
     let mut first = first;
     for (number, b) in machines.iter().enumerate() {
-        first = reading_changes(alloc, first, number as u16, &b.functions, &b.ports, b.state)?;
+        first = reading_changes(
+            alloc,
+            first,
+            number as u16,
+            &b.functions,
+            &b.ports,
+            &b.asked,
+        )?;
     }
     Ok(first)
 }

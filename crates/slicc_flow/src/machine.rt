@@ -1,7 +1,8 @@
 //! The bodies of a machine, and what its transitions check.
-ghost use Rattle.std.specs.Prelude.{◌≡◌, IfOk, ◌++◌, OnOk, map};
+ghost use Rattle.std.specs.Prelude.{◌≡◌, IfOk, ◌++◌, OnOk, flat_map, map};
+ghost use Rattle.std.specs.List.{list_any};
 ghost use Rattle.slicc_plan.specs.BodyParts.{names_in};
-ghost use Rattle.slicc_plan.specs.Prelude.{bodies_of, written_actions, written_functions, written_ports, within, number_in, transitions_of, checks_at};
+ghost use Rattle.slicc_plan.specs.Prelude.{asked_functions, call_of, is_asked, transition_in, bodies_of, written_actions, written_functions, written_ports, within, number_in, transitions_of, checks_at};
 ghost use Rattle.declared_types.specs.Prelude.{scope_at};
 ghost use Rattle.slicc_flow.specs.Written.{written_list};
 ghost use Rattle.slicc_flow.specs.Checks.{checks_with, decl_checks, transition_checks};
@@ -11,7 +12,7 @@ use crate::names::{Names, TableSort, table_names};
 use crate::written::{Lent, actions, bodies, functions, ports};
 use declared_types::Scopes;
 use ruby_base::{NameIndex, NoMemory, Seq};
-use slicc_ast::tree::{Decl, Machine, Transition};
+use slicc_ast::tree::{Decl, Machine, NextState, Transition};
 use slicc_plan::Body;
 use std::alloc::Global;
 
@@ -21,8 +22,9 @@ pub struct MachineBodies {
     pub functions: Seq<Body>,
     pub actions: Seq<Body>,
     pub ports: Seq<Body>,
-    /// The number of the function `getState`, where there is one.
-    pub state: Option<u32>,
+    /// The numbers of the functions that a run itself calls to read: `getState` and, where a transition has a star as its next
+    /// state, `getNextState`.
+    pub asked: Seq<u32>,
     /// By written transitions the tables that their actions check, one by one.
     pub checks: Seq<Seq<u32>>,
 }
@@ -66,6 +68,47 @@ fn ports_of(alloc: Global, names: &Names, m: &Machine) -> Result<Seq<Body>, NoMe
     bodies(alloc, names, &written)
 }
 
+fn is_asked(d: &Decl) -> bool
+    ensures { result ≡ list_any (λ t. is_asked t.next) (transition_in d.now) }
+{
+    match d {
+        Decl::Transition(t) => matches!(t.next, Some(NextState::Asked(_))),
+        _ => false,
+    }
+}
+
+fn any_asked(ds: &[Decl]) -> bool
+    ensures { result ≡ list_any (λ t. is_asked t.next) (flat_map transition_in ds.now) }
+{
+    for d in ds {
+        if is_asked(d) {
+            return true;
+        }
+    }
+    false
+}
+
+fn add_function(functions: &mut Seq<u32>, number: Option<u32>) -> Result<(), NoMemory>
+    ensures { OnOk result (functions.new ≡ functions.old ++ call_of number) }
+{
+    match number {
+        None => Ok(()),
+        Some(k) => functions.push(k),
+    }
+}
+
+fn asked_functions(alloc: Global, names: &Names, m: &Machine) -> Result<Seq<u32>, NoMemory>
+    ensures { IfOk result (λ r. r ≡ asked_functions names.now.functions m.now) }
+{
+    let mut asked = Seq::new(alloc);
+    add_function(&mut asked, names.function("getState".as_bytes()))?;
+    if !any_asked(&m.declarations) {
+        return Ok(asked);
+    }
+    add_function(&mut asked, names.function("getNextState".as_bytes()))?;
+    Ok(asked)
+}
+
 // The bodies where names stand for this and these are the functions.
 fn bodies_by(
     alloc: Global,
@@ -79,11 +122,12 @@ fn bodies_by(
     let functions = bodies(alloc, names, written)?;
     let (actions, checks) = actions_of(alloc, names, m)?;
     let ports = ports_of(alloc, names, m)?;
+    let asked = asked_functions(alloc, names, m)?;
     Ok(MachineBodies {
         functions,
         actions,
         ports,
-        state: names.function("getState".as_bytes()),
+        asked,
         checks,
     })
 }

@@ -8,12 +8,12 @@ use Rattle.ruby_symbols.specs.declared.machine.MachineSymbols.{MachineSymbols}
 use Rattle.ruby_symbols.specs.declared.symbols.Symbols.{Symbols}
 use Rattle.slicc_plan.specs.Prelude.{machines_of, symbols_of, HasNumbers}
 use Rattle.ctl_face.specs.Prelude.{LocalView}
-use Rattle.built_in_acts.specs.declared.call.CallSetting.{CallSetting}
+use Rattle.built_in_acts.specs.declared.machines.KeptMachines.{KeptMachines}
 use Rattle.body_meaning.specs.declared.frame.RoundEnd.TheVariants.{Idle}
 use Rattle.body_meaning.specs.declared.frame.Tried.TheVariants.{Waits}
 use Rattle.body_meaning.specs.Prelude.{IsRoundOf, by_try, scan}
 use Rattle.statement_walk.specs.Prelude.{HasFew}
-use Rattle.protocol_meaning.specs.Prelude.{scan_of, call_setting}
+use Rattle.protocol_meaning.specs.Prelude.{kept_machines, scan_of}
 
 -- what holds of each is that of one that is there
 pub numbers_at : (xs : List MachineSymbols) (k : ℕ) (o : Option MachineSymbols) → All HasNumbers xs → o ≡ slice_get xs k → IfSome o HasNumbers
@@ -37,8 +37,8 @@ module _ (trees : List Tree) (machine limit fired : ℕ) (v : LocalView) where
   unfolding scan_of
   without_tree m is none = rw (is, none) (refl, refl)
 
-  pub with_machine : (symbols : Symbols) (m : MachineSymbols) (tree : Machine) (setting : CallSetting)
-      → slice_get (symbols_of trees).machines machine ≡ Some m → slice_get (machines_of trees) machine ≡ Some tree → symbols ≡ symbols_of trees → setting ≡ call_setting symbols m
-      → scan (record { symbols = symbols; number = machine; machine = m; setting = setting; tree = tree }) limit fired v ≡ scan_of trees machine limit fired v
+  pub with_machine : (symbols : Symbols) (m : MachineSymbols) (tree : Machine) (kept : KeptMachines)
+      → slice_get (symbols_of trees).machines machine ≡ Some m → slice_get (machines_of trees) machine ≡ Some tree → symbols ≡ symbols_of trees → kept ≡ kept_machines (length symbols.machines) m
+      → scan (record { symbols = symbols; number = machine; machine = m; kept = kept; tree = tree }) limit fired v ≡ scan_of trees machine limit fired v
   unfolding scan_of
-  with_machine symbols m tree setting is there same made = rw (is, there, made, same) refl
+  with_machine symbols m tree kept is there same made = rw (is, there, made, same) refl

@@ -2,9 +2,9 @@ ghost use Rattle.std.specs.Prelude.{◌≡◌, List, Some, slice_get};
 ghost use Rattle.slicc_ast.specs.declared.tree.item.Tree.{Tree};
 ghost use Rattle.slicc_plan.specs.Prelude.{machines_of, symbols_of, HasNumbers};
 ghost use Rattle.body_meaning.specs.Prelude.{IsRoundOf};
-ghost use Rattle.protocol_meaning.specs.Prelude.{scan_of};
+ghost use Rattle.protocol_meaning.specs.Prelude.{scan_of, IsServedLocal};
 
-use crate::settings::call_setting;
+use crate::kept::kept_machines;
 use crate::small::{machine_of, plans_are_small};
 use acts::{Local, NoMemory};
 use body_meaning::{RoundEnd, Scope};
@@ -42,6 +42,28 @@ impl Interpreted {
     {
         Interpreted { plan }
     }
+
+    /// One scan of a controller of the machine of this number, as `round` has it. Walking asks nothing of the local, and no machine of the
+    /// protocol need have this number: without one no port fires.
+    pub fn walk<T: Local>(
+        &self,
+        alloc: Global,
+        machine: u16,
+        local: &mut T,
+        fired: u64,
+        limit: u64,
+    ) -> Result<RoundEnd, NoMemory>
+        ensures { IsRoundOf (scan_of self.now machine limit fired (T.view local.old)) result
+            (T.view local.new) (T.view local.old) }
+    {
+        match machine_of(&self.plan, machine) {
+            None => Ok(RoundEnd::Idle),
+            Some(m) => match self.plan.machine(machine) {
+                None => Ok(RoundEnd::Idle),
+                Some(tree) => walk_with(alloc, &self.plan, machine, m, tree, local, fired, limit),
+            },
+        }
+    }
 }
 
 impl Protocol for Interpreted {
@@ -55,16 +77,17 @@ impl Protocol for Interpreted {
         fired: u64,
         limit: u64,
     ) -> Result<RoundEnd, NoMemory>
+        requires { IsServedLocal (λ trees. trees ≡ self.now) machine (T.view local.old) }
         ensures { (trees : List Tree) → trees ≡ self.now
             → IsRoundOf (scan_of trees machine limit fired (T.view local.old)) result
             (T.view local.new) (T.view local.old) }
     {
-        round_of(alloc, &self.plan, machine, local, fired, limit)
+        self.walk(alloc, machine, local, fired, limit)
     }
 }
 
 // A scan of a controller of a machine that is there.
-fn round_with<T: Local>(
+fn walk_with<T: Local>(
     alloc: Global,
     plan: &Plan,
     machine: u16,
@@ -82,34 +105,13 @@ fn round_with<T: Local>(
 {
     plans_are_small(plan);
     let symbols = plan.symbols();
-    let setting = call_setting(alloc, symbols, m)?;
+    let kept = kept_machines(symbols, m);
     let s = Scope {
         symbols,
         number: machine,
         machine: m,
-        setting: &setting,
+        kept,
         tree,
     };
     scan(alloc, s, limit, fired, local)
-}
-
-// A scan of a controller of the machine of this number.
-fn round_of<T: Local>(
-    alloc: Global,
-    plan: &Plan,
-    machine: u16,
-    local: &mut T,
-    fired: u64,
-    limit: u64,
-) -> Result<RoundEnd, NoMemory>
-    ensures { IsRoundOf (scan_of plan.now machine limit fired (T.view local.old)) result
-        (T.view local.new) (T.view local.old) }
-{
-    match machine_of(plan, machine) {
-        None => Ok(RoundEnd::Idle),
-        Some(m) => match plan.machine(machine) {
-            None => Ok(RoundEnd::Idle),
-            Some(tree) => round_with(alloc, plan, machine, m, tree, local, fired, limit),
-        },
-    }
 }

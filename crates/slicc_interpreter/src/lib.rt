@@ -2,7 +2,7 @@
 #![tactic(auto)]
 
 mod interpreted;
-mod settings;
+mod kept;
 mod small;
 
 pub use interpreted::Interpreted;

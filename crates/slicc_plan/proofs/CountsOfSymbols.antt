@@ -1,5 +1,5 @@
 -- What a protocol has is counted from its symbols.
-use Rattle.std.proofs.Common.{◌≡◌, ◌++◌, ◌+◌, ◌*◌, ◌<◌, ◌≤◌, ◌^◌, ◌||◌, ◌∙◌, ℕ, zero, suc, true, cond, Option, None, Some, List, [], ◌∷◌, All, find, length, length-append, map, slice_get, refl, sym, ap, subst, arith}
+use Rattle.std.proofs.Common.{◌≡◌, ◌+◌, ◌*◌, ◌<◌, ◌≤◌, ◌^◌, ◌||◌, ◌∙◌, ℕ, zero, suc, true, cond, Option, None, Some, List, [], ◌∷◌, All, find, length, length-append, map, slice_get, refl, sym, ap, subst, arith}
 use Rattle.std.specs.Prelude.{option_and_then, sum_by, unwrap_or}
 use Rattle.std.proofs.Math.Nat.{mul-le-mul}
 use Rattle.std.proofs.lemmas.List.{length-map}
@@ -15,13 +15,12 @@ use Rattle.slicc_plan.specs.declared.broken.Rule.TheVariants.{NoStates}
 use Rattle.slicc_plan.specs.declared.row.Counts.{Counts}
 use Rattle.slicc_plan.specs.Counts.{events_answered}
 use Rattle.slicc_plan.specs.Declarations.{enumeration}
-use Rattle.slicc_plan.specs.Prelude.{HasCounts, Declaration, IsAccepted, ScopedDeclaration, call_circles, is_written, rows, counts_by, counts_of, declared_number, enumerated, enumeration_symbols, event_members, events_by, global_declarations, is_enumeration, is_events, is_states, large_bodies, machine_declarations, machine_symbols, machines_from, machines_of, made_in, member_count, members_in, members_of_found, missing_machine, missing_parts, missing_parts_in, no_structure, number_of_found, numbers_below, own_default, owner, pairs_by, pairs_of, permission_number, permissions_found, reading_changes, scoped_declarations, shared_pairs, shared_pairs_in, state, state_members, states, states_by, symbol, symbols_of, within, wrong_networks, wrong_state_functions, is_empty}
+use Rattle.slicc_plan.specs.Prelude.{HasCounts, Declaration, IsAccepted, ScopedDeclaration, is_written, rows, counts_by, counts_of, declared_number, enumerated, enumeration_symbols, event_members, events_by, global_declarations, is_enumeration, is_events, is_states, machine_declarations, machine_symbols, machines_from, machines_of, made_in, member_count, members_in, members_of_found, missing_parts_in, no_structure, number_of_found, numbers_below, own_default, owner, pairs_by, pairs_of, permission_number, permissions_found, scoped_declarations, shared_pairs_in, state, state_members, states, states_by, symbol, symbols_of, within, is_empty}
 use Rattle.slicc_plan.proofs.Counted.{machines_counted}
 use Rattle.slicc_plan.proofs.Few.{machine_limited}
 use Rattle.slicc_plan.proofs.Machines.{none_in_one, symbols_counted}
-use Rattle.slicc_plan.proofs.NoPairShared.{none_shared}
+use Rattle.slicc_plan.proofs.MachinesKept.{machines_kept}
 use Rattle.slicc_plan.proofs.Pairs.{pairs_of_each}
-use Rattle.slicc_plan.proofs.Room.{right_none}
 use Rattle.slicc_plan.proofs.There.{There, all_from, found_passes, in_machine, machine_there, there_filtered, there_first, there_found, there_later}
 use Rattle.slicc_plan.proofs.TwoTransitions.{or_true}
 use Rattle.slicc_plan.proofs.Types.{enumeration_stands}
@@ -65,7 +64,7 @@ module _ (trees : List Tree) (accepted : IsAccepted trees) where
       by None is =
           let none : missing_parts_in (0 + k) m ≡ [] =
           none_in_one missing_parts_in 0 (machines_of trees) k m
-          (right_none (call_circles trees ++ large_bodies trees ++ reading_changes trees ++ shared_pairs trees ++ wrong_state_functions trees ++ wrong_networks trees ++ missing_machine trees) (missing_parts trees) accepted.of_machines) at in
+          (machines_kept trees accepted.of_machines).parts at in
           let told : missing_parts_in (0 + k) m ≡ record { rule = NoStates; machine = 0 + k; place = m.span; other = None } ∷ [] =
           ap (λ o. cond (is_empty (state_members m) || is_empty (members_of_found o)) (record { rule = NoStates; machine = 0 + k; place = m.span; other = None } ∷ []) []) is
           ∙ ap (λ b. cond b (record { rule = NoStates; machine = 0 + k; place = m.span; other = None } ∷ []) []) (or_true (is_empty (state_members m))) in
@@ -109,7 +108,7 @@ module _ (trees : List Tree) (accepted : IsAccepted trees) where
 
   pairs_same : (k : ℕ) (m : Machine) → There (machines_of trees) m → pairs_of m ≡ pairs_by (machine_symbols trees k m)
   unfolding machine_symbols
-  pairs_same k m (j, at) = pairs_of_each (0 + j) m (none_in_one shared_pairs_in 0 (machines_of trees) j m (none_shared trees accepted.of_machines) at)
+  pairs_same k m (j, at) = pairs_of_each (0 + j) m (none_in_one shared_pairs_in 0 (machines_of trees) j m (machines_kept trees accepted.of_machines).pairs at)
 
   pub counts_by_symbols : counts_of trees ≡ counts_by (symbols_of trees)
   counts_by_symbols =

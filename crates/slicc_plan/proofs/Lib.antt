@@ -16,6 +16,7 @@ mod Subjects
 pub mod Counted
 pub mod CountsOfSymbols
 pub mod Machines
+pub mod MachinesKept
 pub mod Messages
 pub mod Names
 mod Networks

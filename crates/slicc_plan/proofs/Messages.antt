@@ -10,13 +10,14 @@ use Rattle.slicc_ast.specs.declared.tree.span.Span.{Span}
 use Rattle.slicc_plan.specs.declared.built_in.BuiltInType.{BuiltInType}
 use Rattle.slicc_plan.specs.declared.built_in.BuiltInType.TheVariants.{Request}
 use Rattle.slicc_plan.specs.declared.broken.Rule.TheVariants.{NoStates}
-use Rattle.slicc_plan.specs.Prelude.{IsAccepted, large_bodies, BufferIn, Place, own, to_network, from_network, PortOn, buffer_named, port_on, ports_of, call_circles, Declaration, machine, Scope, everywhere, within, first_named, global_declarations, is_external, is_named, machine_declarations, machine_names, machines_of, wide_scopes, refused_field_types, event_members, is_states, limits_passed, members_of_found, is_empty, missing_machine, missing_parts, missing_parts_in, is_on, is_on_network, port_message, type_at, all_ports, all_ports_from, is_mandatory, wrong_networks, told_unless, unknown_built_in, unknown_built_ins, unknown_built_ins_in, unknown_structure, reading_changes, wrong_state_functions, names_twice_declared, made_in, made_with_its_own, scoped_declarations, shared_pairs, KnownType, built_in, structured, declared_type, external_type, global_type, structure_type, table_named, type_in, type_of_found, type_where, unknown_types, bad_values}
+use Rattle.slicc_plan.specs.Prelude.{IsAccepted, BufferIn, Place, own, to_network, from_network, PortOn, buffer_named, port_on, ports_of, Declaration, machine, Scope, everywhere, within, first_named, global_declarations, is_external, is_named, machine_declarations, machine_names, machines_of, wide_scopes, refused_field_types, event_members, is_states, limits_passed, members_of_found, is_empty, missing_parts_in, is_on, is_on_network, port_message, type_at, all_ports, all_ports_from, is_mandatory, told_unless, unknown_built_in, unknown_built_ins, unknown_built_ins_in, unknown_structure, names_twice_declared, made_in, made_with_its_own, scoped_declarations, KnownType, built_in, structured, declared_type, external_type, global_type, structure_type, table_named, type_in, type_of_found, type_where, unknown_types, bad_values}
 use Rattle.slicc_plan.specs.Buffers.{port_in}
 use Rattle.slicc_plan.specs.BuiltIn.{built_in_type}
 use Rattle.slicc_plan.specs.Declarations.{structure, in_port, out_port}
 use Rattle.slicc_plan.specs.MessageTypes.{message_type}
 use Rattle.slicc_plan.proofs.Room.{mapped_at, none_at, right_none}
 use Rattle.slicc_plan.proofs.Machines.{none_in_one}
+use Rattle.slicc_plan.proofs.MachinesKept.{machines_kept}
 use Rattle.slicc_plan.proofs.There.{There, all_there, in_machine, machine_there, there_first, there_flat, there_found, there_later}
 
 abbrev pub IsDeclared : List Tree → KnownType → Type 0
@@ -127,7 +128,7 @@ module _ (trees : List Tree) (accepted : IsAccepted trees) where
       by None is =
           let none : missing_parts_in (0 + k) m ≡ [] =
           none_in_one missing_parts_in 0 (machines_of trees) k m
-          (right_none (call_circles trees ++ large_bodies trees ++ reading_changes trees ++ shared_pairs trees ++ wrong_state_functions trees ++ wrong_networks trees ++ missing_machine trees) (missing_parts trees) accepted.of_machines) at in
+          (machines_kept trees accepted.of_machines).parts at in
           let told : missing_parts_in (0 + k) m ≡ record { rule = NoStates; machine = 0 + k; place = m.span; other = None } ∷ [] =
           ap (λ o. cond (is_empty (members_of_found o) || is_empty (event_members m)) (record { rule = NoStates; machine = 0 + k; place = m.span; other = None } ∷ []) []) is in
           absurd (cc (sym none ∙ told))

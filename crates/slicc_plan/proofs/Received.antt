@@ -7,11 +7,12 @@ use Rattle.slicc_ast.specs.declared.tree.declaration.Pairs.{Pairs}
 use Rattle.slicc_ast.specs.declared.tree.item.Tree.{Tree}
 use Rattle.slicc_ast.specs.declared.tree.machine.Machine.{Machine}
 use Rattle.slicc_plan.specs.declared.broken.Broken.{Broken}
-use Rattle.slicc_plan.specs.Prelude.{IsAccepted, large_bodies, BufferIn, Place, own, to_network, from_network, buffer_in, buffers_of, call_circles, Declaration, machine_declarations, machines_of, missing_machine, missing_parts, in_each, all_ports, are_from_one, differing_after, doubled_after, doubled_in, networks_broken, wrong_networks, wrong_ports_in, reading_changes, attributes_of, buffer_place, wrong_state_functions, symbols_of, buffer_of_place, buffer_symbol, machine_symbols, shared_pairs, KnownType, ReceivesOnce, is_from}
+use Rattle.slicc_plan.specs.Prelude.{IsAccepted, BufferIn, Place, own, to_network, from_network, buffer_in, buffers_of, Declaration, machine_declarations, machines_of, in_each, all_ports, are_from_one, differing_after, doubled_after, doubled_in, networks_broken, wrong_ports_in, attributes_of, buffer_place, symbols_of, buffer_of_place, buffer_symbol, machine_symbols, KnownType, ReceivesOnce, is_from}
 use Rattle.slicc_plan.specs.Buffers.{listed}
 use Rattle.slicc_plan.specs.MessageTypes.{message_type}
 use Rattle.slicc_plan.proofs.Room.{left_none, right_none}
 use Rattle.slicc_plan.proofs.Machines.{all_machines, none_in_one}
+use Rattle.slicc_plan.proofs.MachinesKept.{machines_kept}
 
 abbrev is_from_place : ℕ → Place → Bool
 is_from_place network own = false
@@ -119,15 +120,9 @@ all_alike trees number v m (d ∷ ds) =
 
 -- what an accepted protocol keeps
 
-no_wrong_networks : (trees : List Tree) → IsAccepted trees → wrong_networks trees ≡ []
-no_wrong_networks trees h =
-    right_none (call_circles trees ++ large_bodies trees ++ reading_changes trees ++ shared_pairs trees ++ wrong_state_functions trees) (wrong_networks trees)
-    (left_none (call_circles trees ++ large_bodies trees ++ reading_changes trees ++ shared_pairs trees ++ wrong_state_functions trees ++ wrong_networks trees) (missing_machine trees)
-    (left_none (call_circles trees ++ large_bodies trees ++ reading_changes trees ++ shared_pairs trees ++ wrong_state_functions trees ++ wrong_networks trees ++ missing_machine trees) (missing_parts trees) h.of_machines))
-
 none_doubled : (trees : List Tree) → IsAccepted trees → in_each (doubled_in trees) trees ≡ []
 none_doubled trees h =
-    right_none (differing_after [] (all_ports trees) ++ in_each (wrong_ports_in trees) trees) (in_each (doubled_in trees) trees) (no_wrong_networks trees h)
+    right_none (differing_after [] (all_ports trees) ++ in_each (wrong_ports_in trees) trees) (in_each (doubled_in trees) trees) (machines_kept trees h.of_machines).networks
 
 machine_receives : (trees : List Tree) (k : ℕ) (m : Machine) → IsAccepted trees → slice_get (machines_of trees) k ≡ Some m → ReceivesOnce (machine_symbols trees k m)
 unfolding machine_symbols

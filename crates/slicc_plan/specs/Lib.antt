@@ -28,6 +28,7 @@ pub mod Machines
 pub mod Meanings
 pub mod MessageTypes
 pub mod Networks
+pub mod NextStates
 pub mod Order
 pub mod Prototypes
 pub mod ReadOnly

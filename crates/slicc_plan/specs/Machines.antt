@@ -2,12 +2,17 @@
 -- and the structures of its tables' lines. Numbers count from 0 in the order of the text.
 use Rattle.std.specs.Prelude.{ℕ, ◌+◌, ◌==◌, ◌&&◌, Bool, true, not, cond, Option, None, Some, List, [], ◌∷◌, ◌++◌, map, flat_map, filter, filter_map, fold, find, position, unwrap_or, codes}
 use Rattle.std.specs.List.{list_any}
+use Rattle.std.specs.Option.{option_map}
 use Rattle.std.specs.Str.{bytes_eq}
+use Rattle.ruby_symbols.specs.declared.machine.Next.{Next}
+use Rattle.ruby_symbols.specs.declared.machine.Next.TheVariants.{To, Asked as AskedFor}
 use Rattle.slicc_ast.specs.declared.tree.name.Name.{Name}
 use Rattle.slicc_ast.specs.declared.tree.item.Tree.{Tree}
 use Rattle.slicc_ast.specs.declared.tree.machine.Machine.{Machine}
 use Rattle.slicc_ast.specs.declared.tree.machine.Decl.{Decl}
 use Rattle.slicc_ast.specs.declared.tree.machine.Decl.TheVariants.{Transition as TransitionDecl}
+use Rattle.slicc_ast.specs.declared.tree.machine.NextState.{NextState}
+use Rattle.slicc_ast.specs.declared.tree.machine.NextState.TheVariants.{Named, Asked}
 use Rattle.slicc_ast.specs.declared.tree.machine.Transition.{Transition}
 use Rattle.slicc_ast.specs.declared.tree.machine.Names.{Names}
 use Rattle.slicc_ast.specs.declared.tree.machine.Names.TheVariants.{One, Several}
@@ -102,9 +107,10 @@ from_states m t = each_once (numbers_among (state_members m) (names_in t.states)
 abbrev pub on_events : Machine → Transition → List ℕ
 on_events m t = each_once (numbers_among (event_members m) (names_in t.events))
 
-abbrev pub next_number : Machine → Option Name → Option ℕ
+abbrev pub next_number : Machine → Option NextState → Option Next
 next_number m None = None
-next_number m (Some n) = number_among (state_members m) n
+next_number m (Some (Named n)) = option_map To (number_among (state_members m) n)
+next_number m (Some (Asked place)) = Some AskedFor
 
 -- the transition with its names as numbers
 abbrev pub written : Machine → Transition → Written
@@ -114,10 +120,10 @@ written m t =
 abbrev pub written_of : Machine → List Written
 written_of m = map (written m) (transitions_of m)
 
--- the state that is left is this one where the transition names none
+-- the state after it is the one before it where the transition has none
 abbrev pub row_of : ℕ → ℕ → ℕ → Written → Row
 row_of state event number t =
-    record { state = state; event = event; next = unwrap_or t.next state; actions = t.actions; transition = number }
+    record { state = state; event = event; next = unwrap_or t.next (To state); actions = t.actions; transition = number }
 
 -- the transition is written for this state and this event
 abbrev pub is_for : ℕ → ℕ → Written → Bool

@@ -3,6 +3,7 @@
 use Rattle.std.specs.Prelude.{ℕ, ◌≡◌, ◌+◌, ◌++◌, ◌==◌, ◌&&◌, Bool, cond, Option, None, Some, List, [], ◌∷◌, flat_map, position, slice_get, unwrap_or}
 use Rattle.std.specs.List.{count_by}
 use Rattle.ruby_symbols.specs.declared.machine.MachineSymbols.{MachineSymbols}
+use Rattle.ruby_symbols.specs.declared.machine.Next.TheVariants.{To}
 use Rattle.ruby_symbols.specs.declared.machine.TransitionSymbol.{TransitionSymbol}
 use Rattle.ruby_symbols.specs.Prelude.{action_named, function_named, table_named}
 use Rattle.slicc_ast.specs.declared.tree.item.Tree.{Tree}
@@ -34,7 +35,7 @@ is_for state event t = includes t.states state && includes t.events event
 
 abbrev pub row_of : ℕ → ℕ → ℕ → TransitionSymbol → Row
 row_of state event number t =
-    record { state = state; event = event; next = unwrap_or t.next state; actions = t.actions; transition = number }
+    record { state = state; event = event; next = unwrap_or t.next (To state); actions = t.actions; transition = number }
 
 -- of these transitions, which are numbered from here on, for a state and an event
 abbrev pub rows_from : ℕ → ℕ → ℕ → List TransitionSymbol → List Row

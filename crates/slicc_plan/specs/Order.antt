@@ -9,7 +9,7 @@ use Rattle.slicc_plan.specs.declared.broken.Broken.{Broken}
 use Rattle.slicc_plan.specs.declared.broken.Subject.{Subject}
 use Rattle.slicc_plan.specs.declared.broken.Subject.TheVariants.{Declarations, Bodies, Machines}
 use Rattle.slicc_plan.specs.declared.broken.Rule.{Rule}
-use Rattle.slicc_plan.specs.declared.broken.Rule.TheVariants.{TwiceDeclared, UnknownType, LimitPassed, NoFieldType, BadValue, NotBuiltIn, NotThere, NotAllowedHere, WrongType, WrongCount, NotWritable, NoReturn, CallCircle, BodyTooLarge, TwoTransitions, StateFunctions, Networks, NoMachine, NoStates, Changes}
+use Rattle.slicc_plan.specs.declared.broken.Rule.TheVariants.{TwiceDeclared, UnknownType, LimitPassed, NoFieldType, BadValue, NotBuiltIn, NotThere, NotAllowedHere, WrongType, WrongCount, NotWritable, NoReturn, CallCircle, BodyTooLarge, TwoTransitions, StateFunctions, Networks, NoMachine, NoStates, Changes, NextStateFunction}
 
 -- the number in a rule's code
 abbrev pub number_of : Rule → ℕ
@@ -33,6 +33,7 @@ number_of Networks = 17
 number_of NoMachine = 18
 number_of NoStates = 19
 number_of Changes = 20
+number_of NextStateFunction = 21
 
 -- what a rule is about
 abbrev pub subject_of : Rule → Subject
@@ -56,6 +57,7 @@ subject_of Networks = Machines
 subject_of NoMachine = Machines
 subject_of NoStates = Machines
 subject_of Changes = Machines
+subject_of NextStateFunction = Machines
 
 -- the second place in the order, where there is one
 abbrev pub second_rank : Option Span → List ℕ

@@ -31,7 +31,8 @@ pub use Rattle.slicc_plan.specs.MessageTypes.{is_on, is_on_network, network_type
 pub use Rattle.slicc_plan.specs.Networks.{all_ports, all_ports_from, are_from_one, differ, differing_after, doubled_after, doubled_in, has_destination, has_sequencer, is_destination, is_mandatory, is_no_request, is_one_network, is_one_own_buffer, is_own, is_sent, is_sent_nowhere, is_wrong_way, networks_broken, port_broken, wrong_networks, wrong_ports_in}
 pub use Rattle.slicc_plan.specs.Order.{IsFirstBroken, IsFirstOf, comes_before, earlier_of, earlier_of_both, first_after, first_of, is_less, number_of, rank_in, rank_of, second_rank, subject_of}
 pub use Rattle.slicc_plan.specs.Prototypes.{told_unless, unknown_built_in, unknown_built_ins, unknown_built_ins_in, unknown_method, unknown_prototype, unknown_structure}
-pub use Rattle.slicc_plan.specs.ReadOnly.{call_of, changes_among, changes_at, reached_changes, reading_calls, reading_changes}
+pub use Rattle.slicc_plan.specs.NextStates.{answers_next, asks_next, is_asked, unanswered_at, unanswered_in, unanswered_stars}
+pub use Rattle.slicc_plan.specs.ReadOnly.{asked_functions, call_of, changes_among, changes_at, reached_changes, reading_calls, reading_changes}
 pub use Rattle.slicc_plan.specs.Returns.{ReturnAt, body_ends, ends, if_ends, if_returns, missing_returns, no_return, others_end, others_returns, returns_in, row_ends, row_returns, wrong_ends, wrong_returns, wrong_ways, wrong_ways_in}
 pub use Rattle.slicc_plan.specs.Scopes.{bodies_in, function_scopes, global_scopes, inner_scopes, machine_bodies, member_scopes, scopes_within, structure_scopes}
 pub use Rattle.slicc_plan.specs.Setups.{AreSizesOf, HasTypeOf, NamesReceivers, attributes_of, buffer_by, buffer_place, buffer_setups, cache_size, default_state, first_state, is_ordered, is_parameters, kinds_on, opening_value, parameter_table, range_values, set_value, setup_in, setup_of, table_of_lines, table_setup, table_size, tables_from, tbe_size, values_from}
@@ -43,7 +44,7 @@ unfoldable pub use Rattle.slicc_plan.specs.SymbolsOfMachines.{machine_symbols}
 pub use Rattle.slicc_plan.specs.SymbolsOfTypes.{built_in_enumeration, built_in_symbols, enumeration_symbol, enumeration_symbols, field_of_type, field_symbol, field_symbols, owner, request_symbol, structure_declared, structure_symbol, structure_symbols}
 pub use Rattle.slicc_plan.specs.TableNeeds.{checks_at, checks_of, checks_or_none, needs, needs_of}
 pub use Rattle.slicc_plan.specs.Tables.{line_structure, table_in, table_sort, tables_of, written_entries}
-pub use Rattle.slicc_plan.specs.TransitionNames.{listed_name, missing_among, missing_in, not_there, wrong_names, wrong_names_in, wrong_permission, wrong_permissions}
+pub use Rattle.slicc_plan.specs.TransitionNames.{listed_next, missing_among, missing_in, not_there, wrong_names, wrong_names_in, wrong_permission, wrong_permissions}
 pub use Rattle.slicc_plan.specs.TwiceDeclared.{declaration_told, first_with, globally_repeated_after, names_twice_declared, repeated, repeated_after, stands_for_built_in, takes_built_in_name, told_after, told_globally, twice_declared}
 pub use Rattle.slicc_plan.specs.TwoTransitions.{share_pair, shared_after, shared_pairs, shared_pairs_in}
 pub use Rattle.slicc_plan.specs.TypeNumbers.{ScopedDeclaration, built_in_kind, declared_enumerations, declared_number, declared_structures, declares, default_found, default_member, default_number, is_default_of, is_its, is_known_as, kind_or_bool, made_in, made_with_its_own, member_number, no_structure, own_default, plain_kind, reference_kind, request_number, scoped_declarations, structure_number, value_kind}

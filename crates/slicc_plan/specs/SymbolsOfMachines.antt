@@ -183,5 +183,6 @@ machine_symbols trees number m =
       get_state = function_among functions (codes "getState");
       set_state = function_among functions (codes "setState");
       set_permission = function_among functions (codes "setAccessPermission");
+      get_next_state = function_among functions (codes "getNextState");
       stall = action_among actions (codes "z_stall");
     }

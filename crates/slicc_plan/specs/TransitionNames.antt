@@ -5,6 +5,8 @@ use Rattle.std.specs.Prelude.{◌++◌, cond, is_none, Option, None, Some, List,
 use Rattle.slicc_ast.specs.declared.tree.name.Name.{Name}
 use Rattle.slicc_ast.specs.declared.tree.item.Tree.{Tree}
 use Rattle.slicc_ast.specs.declared.tree.machine.Machine.{Machine}
+use Rattle.slicc_ast.specs.declared.tree.machine.NextState.{NextState}
+use Rattle.slicc_ast.specs.declared.tree.machine.NextState.TheVariants.{Named, Asked}
 use Rattle.slicc_ast.specs.declared.tree.machine.Transition.{Transition}
 use Rattle.slicc_ast.specs.declared.tree.declaration.State.{State}
 use Rattle.slicc_plan.specs.declared.broken.Broken.{Broken}
@@ -24,13 +26,15 @@ abbrev pub missing_among : List Declaration → List Name → List Broken
 missing_among declarations names =
     map not_there (filter (λ (n : Name). is_none (number_among declarations n)) names)
 
-abbrev pub listed_name : Option Name → List Name
-listed_name None = []
-listed_name (Some n) = n ∷ []
+-- the next state, where it is named
+abbrev pub listed_next : Option NextState → List Name
+listed_next None = []
+listed_next (Some (Named n)) = n ∷ []
+listed_next (Some (Asked place)) = []
 
 abbrev pub missing_in : Machine → Transition → List Broken
 missing_in m t =
-    missing_among (state_members m) (names_in t.states ++ listed_name t.next)
+    missing_among (state_members m) (names_in t.states ++ listed_next t.next)
     ++ missing_among (event_members m) (names_in t.events) ++ missing_among (actions_of m) t.actions
 
 -- Permissions.

@@ -49,6 +49,8 @@ pub enum Rule {
     NoStates,
     /// What only reads changes something.
     Changes,
+    /// A transition has a star as its next state, and its machine has no function that answers which it is.
+    NextStateFunction,
 }
 
 impl Rule {
@@ -76,11 +78,12 @@ impl Rule {
             | Rule::Networks
             | Rule::NoMachine
             | Rule::NoStates
-            | Rule::Changes => Subject::Machines,
+            | Rule::Changes
+            | Rule::NextStateFunction => Subject::Machines,
         }
     }
 
-    /// The number in the rule's code, 1 to 20.
+    /// The number in the rule's code, 1 to 21.
     pub fn number(self) -> u8
         ensures { result ≡ number_of self }
     {
@@ -105,6 +108,7 @@ impl Rule {
             Rule::NoMachine => 18,
             Rule::NoStates => 19,
             Rule::Changes => 20,
+            Rule::NextStateFunction => 21,
         }
     }
 }

@@ -29,6 +29,7 @@ pub use plan::{Plan, copy_plan, counts, same_plan};
 pub use refusal::Refusal;
 pub use row::{Counts, Row, Written};
 pub use ruby_base::{NoMemory, Seq, Text};
+pub use ruby_symbols::Next;
 pub use setup::{
     initial_fields_have_their_kinds, network_has_one_type, networks_are_numbered,
     no_field_is_a_reference, parameters_are_last, receivers_are_sets, setup_has_its_parts,

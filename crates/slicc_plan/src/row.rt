@@ -1,4 +1,5 @@
 use ruby_base::Seq;
+use ruby_symbols::Next;
 use slicc_ast::tree::Span;
 
 /// What a machine does on an event in a state: one pair's part of a written transition. All numbers count from 0 within the
@@ -7,8 +8,8 @@ use slicc_ast::tree::Span;
 pub struct Row {
     pub state: u16,
     pub event: u16,
-    /// The state after it, which is `state` where the transition names none.
-    pub next: u16,
+    /// The state after it, which is `state` where the transition has none.
+    pub next: Next,
     pub actions: Seq<u16>,
     /// The number of the written transition.
     pub transition: u32,
@@ -19,8 +20,8 @@ pub struct Row {
 pub struct Written {
     pub states: Seq<u16>,
     pub events: Seq<u16>,
-    /// The state after it, where the transition names one.
-    pub next: Option<u16>,
+    /// The state after it, where the transition has one.
+    pub next: Option<Next>,
     pub actions: Seq<u16>,
     pub span: Span,
 }

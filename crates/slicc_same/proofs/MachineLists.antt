@@ -6,6 +6,8 @@ use Rattle.slicc_ast.specs.declared.tree.machine.Parameter.{Parameter}
 use Rattle.std.specs.Str.{bytes_eq}
 use Rattle.slicc_ast.specs.declared.tree.machine.Names.{Names}
 use Rattle.slicc_ast.specs.declared.tree.machine.Names.TheVariants.{One, Several}
+use Rattle.slicc_ast.specs.declared.tree.machine.NextState.{NextState}
+use Rattle.slicc_ast.specs.declared.tree.machine.NextState.TheVariants.{Named, Asked}
 use Rattle.slicc_ast.specs.declared.tree.name.Name.{Name}
 use Rattle.slicc_ast.specs.declared.tree.statement.Block.{Block}
 use Rattle.slicc_ast.specs.declared.tree.token.TokenKind.TheVariants.{Sign}
@@ -72,11 +74,16 @@ names_behind (One a) (Several b other) p q = refl
 names_behind (Several a span) (One b) p q = refl
 names_behind (Several a span) (Several b other) p q = single (same_parts (name_list a (sign CloseBrace none)) (name_list b (sign CloseBrace none))) (same_parts p q)
 
-pub next_behind : (a b : Option Name) (o u : Outline) (p q : Parts) → same_parts (next_parts a (part o p)) (next_parts b (part u q)) ≡ same_parts (next_parts a none) (next_parts b none) && same_parts (part o p) (part u q)
+pub next_behind : (a b : Option NextState) (o u : Outline) (p q : Parts) → same_parts (next_parts a (part o p)) (next_parts b (part u q)) ≡ same_parts (next_parts a none) (next_parts b none) && same_parts (part o p) (part u q)
 next_behind None None o u p q = refl
-next_behind None (Some b) o u p q = refl
-next_behind (Some a) None o u p q = refl
-next_behind (Some a) (Some b) o u p q = single (alike_name a b && true) (same_parts (part o p) (part u q))
+next_behind None (Some (Named b)) o u p q = refl
+next_behind None (Some (Asked there)) o u p q = refl
+next_behind (Some (Named a)) None o u p q = refl
+next_behind (Some (Asked here)) None o u p q = refl
+next_behind (Some (Named a)) (Some (Named b)) o u p q = single (alike_name a b && true) (same_parts (part o p) (part u q))
+next_behind (Some (Named a)) (Some (Asked there)) o u p q = refl
+next_behind (Some (Asked here)) (Some (Named b)) o u p q = refl
+next_behind (Some (Asked here)) (Some (Asked there)) o u p q = refl
 
 pub protocol_behind : (a b : Option (List ℕ)) (xs ys : List Item) → same_parts (protocol_parts a (item_list xs)) (protocol_parts b (item_list ys)) ≡ same_parts (protocol_parts a none) (protocol_parts b none) && same_parts (item_list xs) (item_list ys)
 protocol_behind None None xs ys = refl

@@ -12,8 +12,8 @@ use crate::list::{Same, all_same};
 use crate::statement::same_block;
 use crate::token::{same_name, same_text, same_type};
 use slicc_ast::tree::{
-    Action, Block, Decl, Function, InPort, Literal, Machine, Name, Names, Object, OutPort,
-    Parameter, Transition,
+    Action, Block, Decl, Function, InPort, Literal, Machine, Name, Names, NextState, Object,
+    OutPort, Parameter, Transition,
 };
 
 fn same_out_port(a: &OutPort, b: &OutPort) -> bool
@@ -59,11 +59,12 @@ fn same_names(a: &Names, b: &Names) -> bool
     }
 }
 
-fn same_next(a: &Option<Name>, b: &Option<Name>) -> bool
+fn same_next(a: &Option<NextState>, b: &Option<NextState>) -> bool
     ensures { result ≡ same_parts (next_parts a.now none) (next_parts b.now none) }
 {
     match (a, b) {
-        (Some(a), Some(b)) => same_name(a, b),
+        (Some(NextState::Named(a)), Some(NextState::Named(b))) => same_name(a, b),
+        (Some(NextState::Asked(_)), Some(NextState::Asked(_))) => true,
         (None, None) => true,
         _ => false,
     }

@@ -3,7 +3,7 @@ ghost use Rattle.std.specs.Prelude.{◌≡◌, IfOk, map};
 ghost use Rattle.slicc_plan.specs.Prelude.{HasFewMachines, broken_machines, first_of, machines_of, written_of};
 
 use declared_types::Scopes;
-use machine_rules::{machine_parts, networks, state_functions};
+use machine_rules::{machine_parts, networks, next_states, state_functions};
 use machine_table::all_written;
 use ruby_base::{NoMemory, Seq};
 use slicc_flow::flow_broken;
@@ -25,5 +25,6 @@ pub fn broken_machines(
     let first = state_functions(alloc, first, scopes)?;
     let first = networks(alloc, first, scopes)?;
     let first = machine_parts(alloc, first, scopes.trees)?;
+    let first = next_states(alloc, first, scopes)?;
     Ok((first, written))
 }

@@ -1,5 +1,8 @@
-ghost use Rattle.std.specs.Prelude.{◌≡◌, ◌<◌, ◌≤◌, ◌+◌, ◌↔◌, [], None, Some, length, slice_get, IfOk, IfErr, IsOk, IsTrue, OnOk, OnErr};
-ghost use Rattle.std.specs.Option.{option_map};
+ghost use Rattle.std.specs.Prelude.{◌≡◌, ◌<◌, ◌≤◌, ◌+◌, ◌^◌, ◌↔◌, [], None, Some, length, slice_get, IfOk, IfErr, IsOk, IsTrue, OnOk, OnErr};
+ghost use Rattle.std.specs.List.{find};
+ghost use Rattle.std.specs.Option.{option_copied, option_map};
+ghost use Rattle.ruby_value.specs.Prelude.{same_number};
+ghost use Rattle.stall_map.specs.declared.stalled.Stalled.{Stalled};
 ghost use Rattle.stall_map.specs.Stalls.{Ascends, IsNew, messages_of, messages_under, next_after, with_stalled, without_line};
 
 use crate::lane::{Lane, count_one_more, empty_lists};
@@ -60,6 +63,7 @@ impl StallMap {
     pub fn len(&self) -> usize
         ensures count { result ≡ length self.now.kept }
         ensures order { Ascends self.now.kept }
+        ensures small { result < 2 ^ 63 }
     {
         self.stalled.len()
     }
@@ -77,6 +81,13 @@ impl StallMap {
         ensures { IsTrue result ↔ IsNew self.now.kept number }
     {
         !self.stalled.iter().any(|s| s.message.number == number)
+    }
+
+    /// The message of this number, with its line, or `None` exactly where there is none.
+    pub fn find(&self, number: MsgNo) -> Option<&Stalled>
+        ensures { option_copied result ≡ find (λ (s : Stalled). same_number s.message.number number) self.now.kept }
+    {
+        self.stalled.iter().find(|s| s.message.number == number)
     }
 
     /// Makes room for so many more messages, under whatever lines, or answers that there is no memory for them. The messages

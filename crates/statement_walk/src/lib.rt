@@ -16,5 +16,5 @@ mod walk;
 pub use done::{action_done, port_done};
 pub use functions::call_function;
 pub use needs::need_more;
-pub use states::{permission_set, state_by, state_set};
+pub use states::{next_state, permission_set, state_by, state_set};
 pub use walk::all_done;

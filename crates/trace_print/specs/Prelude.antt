@@ -5,5 +5,5 @@ pub use Rattle.trace_print.specs.Entries.{end_lines, entry_lines, fault_word, fi
 pub use Rattle.trace_print.specs.Lines.{hexadecimal, known, line_of, numbered, or_dash, place, spaced}
 pub use Rattle.trace_print.specs.Names.{action_name, action_word, controller_machine, controller_word, event_word, machine_at, machine_of, machine_part, machine_word, member_name, state_word}
 pub use Rattle.trace_print.specs.Pieces.{AreLinesPut, IsLinePut, all_put, as_one_piece, cut_in_piece, in_pieces, line_cut, line_put, text_of}
-pub use Rattle.trace_print.specs.Rows.{action_words, row_line, row_lines}
+pub use Rattle.trace_print.specs.Rows.{action_words, next_word, row_line, row_lines}
 pub use Rattle.trace_print.specs.Words.{word_bytes}

@@ -2,6 +2,7 @@
 ghost use Rattle.std.specs.Prelude.{◌≡◌, ◌∷◌, []};
 ghost use Rattle.std.specs.Option.{option_copied};
 ghost use Rattle.ruby_outside.specs.Prelude.{IsWritten};
+ghost use Rattle.run_journal.specs.Prelude.{end_of, entry_of};
 ghost use Rattle.slicc_plan.specs.Prelude.{symbols_of};
 ghost use Rattle.trace_print.specs.Prelude.{end_lines, entry_lines, fault_word, fired_line, stop_line, hexadecimal, known, event_word, state_word, AreLinesPut, IsLinePut, text_of, word_bytes};
 
@@ -12,7 +13,7 @@ use ruby_base::{Seq, Text};
 use ruby_outside::Sink;
 use ruby_symbols::{MachineSymbols, Symbols};
 use ruby_value::Fault;
-use run_journal::{End, Entry, FireNote, StopAt};
+use run_journal::{EndRef, EntryRef, FireNote, StopAt};
 use slicc_plan::Plan;
 
 fn write_fired<'a, S: Sink>(
@@ -121,44 +122,44 @@ fn write_end<S: Sink>(
     m: Option<&MachineSymbols>,
     cycle: u64,
     name: &[u8],
-    end: &End,
+    end: EndRef<'_>,
 ) -> bool
-    ensures { AreLinesPut S.writes sink.old (end_lines symbols.now (option_copied m.entry) cycle name.now end.now) result sink.new }
+    ensures { AreLinesPut S.writes sink.old (end_lines symbols.now (option_copied m.entry) cycle name.now (end_of end.entry)) result sink.new }
 {
     match end {
-        End::Idle => true,
-        End::Full => true,
-        End::Stop(at) => write_stop(sink, symbols, m, cycle, name, at),
+        EndRef::Idle => true,
+        EndRef::Full => true,
+        EndRef::Stop(at) => write_stop(sink, symbols, m, cycle, name, at),
     }
 }
 
-/// Writes the line of an entry of a run's journal, which a fired transition and a fault have and other entries haven't, and answers
+/// Writes the line of an entry that a run's journal lends, which a fired transition and a fault have and other entries haven't, and answers
 /// whether it was written whole. Where it wasn't, a beginning of it was. The names are those of the controllers, by number.
-pub fn write_entry<S: Sink>(sink: &mut S, plan: &Plan, names: &Seq<Text>, e: &Entry) -> bool
-    ensures pieces { AreLinesPut S.writes sink.old (entry_lines (symbols_of plan.now) names.now e.now) result sink.new }
-    ensures written { IsWritten (S.written sink.old) (S.faults sink.old) (text_of (entry_lines (symbols_of plan.now) names.now e.now)) result (S.written sink.new) (S.faults sink.new) }
+pub fn write_entry<S: Sink>(sink: &mut S, plan: &Plan, names: &Seq<Text>, e: EntryRef<'_>) -> bool
+    ensures pieces { AreLinesPut S.writes sink.old (entry_lines (symbols_of plan.now) names.now (entry_of e.entry)) result sink.new }
+    ensures written { IsWritten (S.written sink.old) (S.faults sink.old) (text_of (entry_lines (symbols_of plan.now) names.now (entry_of e.entry))) result (S.written sink.new) (S.faults sink.new) }
 {
     let symbols = plan.symbols();
     match e {
-        Entry::Fired {
+        EntryRef::Fired {
             cycle,
             controller,
             note,
             ..
         } => {
-            let m = controller_machine(symbols, names, *controller);
-            let name = controller_word(names, *controller);
-            write_fired(sink, symbols, m, *cycle, name, note)
+            let m = controller_machine(symbols, names, controller);
+            let name = controller_word(names, controller);
+            write_fired(sink, symbols, m, cycle, name, &note)
         }
-        Entry::Ended {
+        EntryRef::Ended {
             cycle,
             controller,
             end,
         } => {
-            let m = controller_machine(symbols, names, *controller);
-            let name = controller_word(names, *controller);
-            write_end(sink, symbols, m, *cycle, name, end)
+            let m = controller_machine(symbols, names, controller);
+            let name = controller_word(names, controller);
+            write_end(sink, symbols, m, cycle, name, end)
         }
-        Entry::Turned { .. } => true,
+        EntryRef::Turned { .. } => true,
     }
 }

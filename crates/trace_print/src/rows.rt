@@ -3,14 +3,14 @@ ghost use Rattle.std.specs.Prelude.{Some, map, ◌≡◌, ◌==◌, ◌<◌, IfS
 ghost use Rattle.std.specs.Option.{option_copied};
 ghost use Rattle.ruby_outside.specs.Prelude.{IsWritten};
 ghost use Rattle.slicc_plan.specs.Prelude.{symbols_of};
-ghost use Rattle.trace_print.specs.Prelude.{IsAdded, spaced, action_word, AreLinesPut, IsLinePut, text_of, action_words, row_line, row_lines, or_dash, action_name, controller_machine, controller_word, event_word, machine_at, machine_of, machine_part, machine_word, member_name, state_word};
+ghost use Rattle.trace_print.specs.Prelude.{IsAdded, spaced, action_word, AreLinesPut, IsLinePut, text_of, action_words, row_line, row_lines, or_dash, action_name, controller_machine, controller_word, event_word, machine_at, machine_of, machine_part, machine_word, member_name, next_word, state_word};
 
 use crate::Word;
 use crate::line::{Held, add_spaced, begin_line, end_line};
 use arrayvec::ArrayVec;
 use ruby_base::{Seq, Text};
 use ruby_outside::Sink;
-use ruby_symbols::{MachineSymbols, Symbols, machine_named};
+use ruby_symbols::{MachineSymbols, Next, Symbols, machine_named};
 use slicc_plan::{Plan, Row};
 
 fn add_each<S: Sink>(
@@ -43,6 +43,15 @@ fn add_actions<S: Sink>(
     add_each(sink, line, m, actions)
 }
 
+fn next_word<'a>(symbols: &'a Symbols, m: Option<&MachineSymbols>, next: Next) -> &'a [u8]
+    ensures { result.now ≡ next_word symbols.now (option_copied m.entry) next }
+{
+    match next {
+        Next::To(state) => state_word(symbols, m, state),
+        Next::Asked => b"*",
+    }
+}
+
 fn write_row<S: Sink>(
     sink: &mut S,
     symbols: &Symbols,
@@ -54,7 +63,7 @@ fn write_row<S: Sink>(
     let mut line = ArrayVec::new();
     let state = Word::Bytes(state_word(symbols, m, row.state));
     let event = Word::Bytes(event_word(symbols, m, row.event));
-    let next = Word::Bytes(state_word(symbols, m, row.next));
+    let next = Word::Bytes(next_word(symbols, m, row.next));
     if !begin_line(sink, &mut line, machine_word(m), &[state, event, next]) {
         return false;
     }

@@ -1,8 +1,8 @@
 -- Counts of messages, place by place, and where nobody is held.
-use Rattle.std.proofs.Common.{◌≡◌, ◌<◌, ◌+◌, ◌++◌, get_or, length, subst, take, ◌&&◌, not, ℕ, suc, Bool, true, false, cond, List, [], ◌∷◌, Option, None, Some, map, is_none, is_some, refl, sym, ◌∙◌, ap, arith}
+use Rattle.std.proofs.Common.{◌≡◌, ◌<◌, ◌≤◌, ◌+◌, ◌-◌, ◌^◌, ◌++◌, drop, min, get_or, length, subst, take, ◌&&◌, not, ℕ, suc, Bool, true, false, cond, List, [], ◌∷◌, Option, None, Some, map, is_none, is_some, refl, sym, ◌∙◌, ap, arith}
 use Rattle.std.specs.Prelude.{count_by}
 use Rattle.std.specs.List.{flat_map}
-use Rattle.std.proofs.lemmas.List.{append-nil, take_more}
+use Rattle.std.proofs.lemmas.List.{append-nil, take-append-drop, take_more}
 use Rattle.std.proofs.lemmas.List.Concat.{flat_map-append}
 use Rattle.std.proofs.lemmas.List.Sums.{sum_by-append, sum_by-cons}
 use Rattle.run_journal.specs.declared.entry.Entry.{Entry}
@@ -17,19 +17,19 @@ use Rattle.world_state.specs.declared.place.Keeper.{Keeper}
 use Rattle.world_state.specs.declared.place.Keeper.TheVariants.{World, Worker}
 use Rattle.world_state.specs.declared.place.Place.{Place}
 use Rattle.world_state.specs.Prelude.{Made, made_by, made_in, place_with, places_with, IsNobody}
-use Rattle.world_events.specs.Prelude.{AreCountsOf, mail_by, mail_in}
+use Rattle.world_events.specs.Prelude.{AreCountsOf, FitsWith, IsFew, IsNoMore, mail_by, mail_in}
 use Rattle.world_events.specs.declared.accounting.Counts.{Counts}
 
 -- a message is of a kind as the account of a run has it where the census has it so
-queued-same : (o : Option ℕ) (recycled : Bool) → (not (is_some o) && not recycled) ≡ (is_none o && not recycled)
+pub queued-same : (o : Option ℕ) (recycled : Bool) → (not (is_some o) && not recycled) ≡ (is_none o && not recycled)
 queued-same None recycled = refl
 queued-same (Some line) recycled = refl
 
-recycled-same : (o : Option ℕ) (recycled : Bool) → (not (is_some o) && recycled) ≡ (is_none o && recycled)
+pub recycled-same : (o : Option ℕ) (recycled : Bool) → (not (is_some o) && recycled) ≡ (is_none o && recycled)
 recycled-same None recycled = refl
 recycled-same (Some line) recycled = refl
 
-counted-as : (p : Mailed → Bool) (q : InboxMessage → Bool) (inbox : List InboxMessage) → ((o : InboxMessage) → p (mailed o) ≡ q o)
+pub counted-as : (p : Mailed → Bool) (q : InboxMessage → Bool) (inbox : List InboxMessage) → ((o : InboxMessage) → p (mailed o) ≡ q o)
     → count_by p (map mailed inbox) ≡ count_by q inbox
 counted-as p q [] same = refl
 counted-as p q (o ∷ inbox) same =
@@ -77,6 +77,52 @@ mail-more places i k within is =
     ∙ sym (flat_map-append f (take i places) (get_or places i k ∷ []))
     ∙ ap (λ (ps : List Place). mail_in ps) (sym (take_more places i k within))
 
+-- those of the places so far and of the next one are no more than those of all
+pub no-more : (p : Mailed → Bool) (places : List Place) (i : ℕ) (k : Place) → i < length places → k ≡ get_or places i k
+    → count_by p (mail_in (take i places)) + count_by p (mail_by k.keeper) ≤ count_by p (mail_in places)
+no-more p places i k within is =
+    let one : Mailed → ℕ = λ m. cond (p m) 1 0 in
+    let here : count_by p (mail_in (take i places)) + count_by p (mail_by k.keeper) ≡ count_by p (mail_in (take (i + 1) places)) =
+    sym (sum_by-append one (mail_in (take i places)) (mail_by k.keeper)) ∙ ap (count_by p) (mail-more places i k within is) in
+    let all : count_by p (mail_in places) ≡ count_by p (mail_in (take (i + 1) places)) + count_by p (mail_in (drop (i + 1) places)) =
+    ap (λ (ps : List Place). count_by p (mail_in ps)) (sym (take-append-drop (i + 1) places))
+    ∙ ap (count_by p) (flat_map-append (λ (q : Place). mail_by q.keeper) (take (i + 1) places) (drop (i + 1) places))
+    ∙ sum_by-append one (mail_in (take (i + 1) places)) (mail_in (drop (i + 1) places)) in
+    omega (arith, here, all)
+
+-- so the next one's fit the counts so far
+pub fits-with : (places : List Place) (i : ℕ) (k : Place) (c : Counts) → i < length places → k ≡ get_or places i k
+    → AreCountsOf (mail_in (take i places)) c → IsFew (mail_in places) → FitsWith c (mail_by k.keeper)
+fits-with places i k c within is are few = record {
+  queued_fit = let h = no-more runs.is_queued places i k within is in omega (arith, h, are.queued, few.few_queued);
+  stalled_fit = let h = no-more runs.is_stalled places i k within is in omega (arith, h, are.stalled, few.few_stalled);
+  recycled_fit = let h = no-more runs.is_recycled places i k within is in omega (arith, h, are.recycled, few.few_recycled);
+}
+
+-- what is no more than was sent is few, where 64 bits count what was sent
+pub few-of : (mail : List Mailed) (sent : ℕ) → IsNoMore mail sent → sent ≤ 2 ^ 64 - 2 ^ 32 → IsFew mail
+few-of mail sent most bound = record {
+  few_queued = omega (arith, most);
+  few_stalled = omega (arith, most);
+  few_recycled = omega (arith, most);
+}
+
+-- a count that fits is told as it is
+pub told-more : (count told after more : ℕ) → after ≡ min (count + told) (2 ^ 64 - 1) → told ≡ census.capped more → count + more < 2 ^ 64 - 1 → after ≡ count + more
+told-more count told after more sum told_is fits = omega (arith, sum, told_is)
+
+pub told-whole : (count told after more : ℕ) → after ≡ min (count + told) (2 ^ 64 - 1) → told ≡ more → count + more < 2 ^ 64 - 1 → after ≡ count + more
+told-whole count told after more sum told_is fits = omega (arith, sum, told_is)
+
+-- the counts of an inbox, as a census has them, fit too
+pub census-fits : (c : Counts) (inbox : List InboxMessage) → FitsWith c (map mailed inbox)
+    → (c.queued + count_by census.is_queued inbox < 2 ^ 64 - 1) × (c.stalled + count_by census.is_stalled inbox < 2 ^ 64 - 1) × (c.recycled + count_by census.is_recycled inbox < 2 ^ 64 - 1)
+census-fits c inbox fits =
+    let q = counted-as runs.is_queued census.is_queued inbox (λ o. queued-same o.waiting o.message.recycled) in
+    let s = counted-as runs.is_stalled census.is_stalled inbox (λ o. refl) in
+    let r = counted-as runs.is_recycled census.is_recycled inbox (λ o. recycled-same o.waiting o.message.recycled) in
+    (omega (arith, q, fits.queued_fit), omega (arith, s, fits.stalled_fit), omega (arith, r, fits.recycled_fit))
+
 -- where nobody is held, the messages of the run are those of the places
 module _ {D : Type 0} (p : Meaning) (drive : D → List Seat → ℕ → Drive D) (s : Setting D) (held : Ctl) where
   mail-here : (finished : Bool) (k : Keeper) → (made_by k ≡ None → ⊥)
@@ -90,6 +136,19 @@ module _ {D : Type 0} (p : Meaning) (drive : D → List Seat → ℕ → Drive D
       ap (λ (ms : List Mailed). ms ++ held_mail (rules p drive s) (places_with held places))
       (mail-here k.finished k.keeper (λ none. nobody 0 (ap (λ (o : Option Made). Some o) none)))
       ∙ ap (λ (ms : List Mailed). mail_by k.keeper ++ ms) (mail-held places (λ c is. nobody (suc c) is))
+
+  pub none-more : (places : List Place) (journal : List Entry) → IsNobody (made_in places)
+      → length (runs.sent_numbers journal)
+      ≡ length (runs.consumed_numbers journal) + count_by runs.is_queued (held_mail (rules p drive s) (places_with held places))
+      + count_by runs.is_stalled (held_mail (rules p drive s) (places_with held places))
+      + count_by runs.is_recycled (held_mail (rules p drive s) (places_with held places))
+      → IsNoMore (mail_in places) (length (runs.sent_numbers journal))
+  none-more places journal nobody sums =
+      let mail : held_mail (rules p drive s) (places_with held places) ≡ mail_in places = mail-held places nobody in
+      let q = ap (count_by runs.is_queued) mail in
+      let st = ap (count_by runs.is_stalled) mail in
+      let r = ap (count_by runs.is_recycled) mail in
+      omega (arith, sums, q, st, r)
 
   pub account-held : (places : List Place) (journal : List Entry) (sent consumed : ℕ) (counts : Counts) → IsNobody (made_in places)
       → sent ≡ length (runs.sent_numbers journal) → consumed ≡ length (runs.consumed_numbers journal) → AreCountsOf (mail_in places) counts

@@ -3,4 +3,4 @@ pub use Rattle.world_events.specs.Worlds.{CanTake, CanTurn, HasAdded, InWorld, I
 pub use Rattle.world_events.specs.Held.{Holds, IsHolding, IsSameHeld, IsScanEnded, IsScanFired, ctl_in, kept_in}
 pub use Rattle.world_events.specs.Data.{IsData, view_of}
 pub use Rattle.world_events.specs.Opening.{AreOpened, IsOpened, IsOpenedFor}
-pub use Rattle.world_events.specs.Accounted.{AreCountsOf, mail_by, mail_in}
+pub use Rattle.world_events.specs.Accounted.{AreCountsOf, FitsWith, IsFew, IsNoMore, mail_by, mail_in}

@@ -1,16 +1,16 @@
 //! Where the messages of a run have gone, and what else is read off a world, and taken from it, as its run has ended.
-ghost use Rattle.std.specs.Prelude.{◌≡◌, ◌+◌, ◌++◌, ℕ, List, IfOk, Some};
+ghost use Rattle.std.specs.Prelude.{◌≡◌, ◌++◌, ℕ, List, Some, length};
 ghost use Rattle.protocol_runs.specs.Prelude.{account, Mailed, Meaning, rules, Setting, HasEnded};
 ghost use Rattle.ctl_face.specs.Prelude.{Ctl};
-ghost use Rattle.ctl_mail.specs.Prelude.{capped};
 ghost use Rattle.sequencer.specs.Prelude.{Drive, Seat};
 ghost use Rattle.world_state.specs.Prelude.{made_in, IsNobody, world_of};
-ghost use Rattle.world_events.specs.Accounted.{AreCountsOf, mail_by, mail_in};
-ghost use Rattle.run_journal.specs.Prelude.{tally};
+ghost use Rattle.world_events.specs.Accounted.{AreCountsOf, FitsWith, IsFew, IsNoMore, mail_by, mail_in};
+ghost use Rattle.run_journal.specs.Prelude.{sent_numbers, tally};
 ghost use Rattle.world_events.specs.Worlds.{InWorld, rules_in};
 
 use crate::World;
-use ruby_value::NoMemory;
+use protocol_meaning::{meanings_are_lawful, settings_are_lawful};
+use protocol_runs::accounts_for_each_message;
 use run_journal::{Account, Tally, Verdict, tally_of};
 use sequencer::Driver;
 use world_state::{Keeper, Place, State};
@@ -23,43 +23,31 @@ struct Counts {
     recycled: u64,
 }
 
-// A count with one more that is told so: the greatest number of 64 bits where it is that or beyond. No memory has so many messages.
-fn plus(count: u64, told: u64) -> Result<u64, NoMemory>
-    ensures sum { IfOk result (λ n. n ≡ count + told) }
-    ensures exact { IfOk result (λ n. (more : ℕ) → told ≡ capped more → n ≡ count + more) }
-{
-    if told == u64::MAX {
-        return Err(NoMemory);
-    }
-    match count.checked_add(told) {
-        Some(n) => Ok(n),
-        None => Err(NoMemory),
-    }
-}
-
 // The counts with the messages at one place more.
-fn with_place(counts: Counts, place: &Place) -> Result<Counts, NoMemory>
-    ensures { IfOk result (λ after. (mail : List Mailed) → AreCountsOf mail counts
-        → AreCountsOf (mail ++ mail_by place.now.keeper) after) }
+fn with_place(counts: Counts, place: &Place) -> Counts
+    requires { FitsWith counts (mail_by place.now.keeper) }
+    ensures { (mail : List Mailed) → AreCountsOf mail counts
+        → AreCountsOf (mail ++ mail_by place.now.keeper) result }
 {
     match &place.keeper {
         Keeper::World(kept) => {
             let told = kept.store.census();
-            let queued = plus(counts.queued, told.0)?;
-            let stalled = plus(counts.stalled, told.1)?;
-            let recycled = plus(counts.recycled, told.2)?;
-            Ok(Counts {
+            let queued = counts.queued.saturating_add(told.0);
+            let stalled = counts.stalled.saturating_add(told.1);
+            let recycled = counts.recycled.saturating_add(told.2);
+            Counts {
                 queued,
                 stalled,
                 recycled,
-            })
+            }
         }
-        Keeper::Worker(_) => Ok(counts),
+        Keeper::Worker(_) => counts,
     }
 }
 
-fn counts_of(places: &[Place]) -> Result<Counts, NoMemory>
-    ensures { IfOk result (AreCountsOf (mail_in places.now)) }
+fn counts_of(places: &[Place]) -> Counts
+    requires { IsFew (mail_in places.now) }
+    ensures { AreCountsOf (mail_in places.now) result }
 {
     let mut counts = Counts {
         queued: 0,
@@ -67,33 +55,30 @@ fn counts_of(places: &[Place]) -> Result<Counts, NoMemory>
         recycled: 0,
     };
     for place in places {
-        counts = with_place(counts, place)?;
+        counts = with_place(counts, place);
     }
-    Ok(counts)
+    counts
 }
 
-/// How many messages the journal has as sent and consumed, and where the others are, while nobody holds a controller. It takes no
-/// memory, and answers `NoMemory` only where a number is beyond 64 bits, as no memory has so many messages.
-pub(crate) fn account<D>(st: &State<D>) -> Result<Account, NoMemory>
-    requires { IsNobody (made_in st.now.places.items) }
-    ensures { IfOk result (λ a. (p : Meaning) (drive : D → List Seat → ℕ → Drive D) (s : Setting D) (held : Ctl)
-        → a ≡ account (rules p drive s) st.entry.now.book.journal
-        (world_of held st.entry.now).places) }
+/// How many messages the journal has as sent and consumed, and where the others are, while nobody holds a controller and no more are in
+/// inboxes than were sent. It takes no memory.
+pub(crate) fn account<D>(st: &State<D>) -> Account
+    requires nobody { IsNobody (made_in st.now.places.items) }
+    requires few { IsNoMore (mail_in st.now.places.items) (length (sent_numbers st.now.book.journal)) }
+    ensures { (p : Meaning) (drive : D → List Seat → ℕ → Drive D) (s : Setting D) (held : Ctl)
+        → result ≡ account (rules p drive s) st.entry.now.book.journal
+        (world_of held st.entry.now).places }
 {
-    let Some(sent) = st.book.sent() else {
-        return Err(NoMemory);
-    };
-    let Some(consumed) = st.book.consumed() else {
-        return Err(NoMemory);
-    };
-    let counts = counts_of(&st.places)?;
-    Ok(Account {
-        sent,
-        consumed,
+    let all = st.book.sent();
+    let gone = st.book.consumed();
+    let counts = counts_of(&st.places);
+    Account {
+        sent: all,
+        consumed: gone,
         queued: counts.queued,
         stalled: counts.stalled,
         recycled: counts.recycled,
-    })
+    }
 }
 
 impl<D: Driver> World<D> {
@@ -104,12 +89,15 @@ impl<D: Driver> World<D> {
         tally_of(self.state.book.history(), worker)
     }
 
-    /// Where the messages of a run that has ended have gone.
-    pub fn account(&self) -> Result<Account, NoMemory>
+    /// Where the messages of a run that has ended have gone. It takes no memory.
+    pub fn account(&self) -> Account
         requires { InWorld D.drive self.now HasEnded }
-        ensures { IfOk result (λ a. InWorld D.drive self.now (λ w.
-            a ≡ account (rules_in D.drive self.now) self.now.journal w.places)) }
+        ensures { InWorld D.drive self.now (λ w.
+            result ≡ account (rules_in D.drive self.now) self.now.journal w.places) }
     {
+        meanings_are_lawful();
+        settings_are_lawful::<D>();
+        accounts_for_each_message::<D>();
         account(&self.state)
     }
 

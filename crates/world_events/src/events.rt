@@ -46,7 +46,6 @@ impl<D: Driver> World<D> {
     /// memory the outcome comes back.
     pub fn fire(
         &mut self,
-        alloc: Global,
         worker: u32,
         held: &mut Held,
         o: Outcome,
@@ -68,10 +67,7 @@ impl<D: Driver> World<D> {
         settings_are_lawful::<D>();
         copies_can_arrive::<D>();
         let _limit = held.limit;
-        match self
-            .state
-            .fire(alloc, worker, held.controller, &mut held.store, o)
-        {
+        match self.state.fire(worker, held.controller, &mut held.store, o) {
             Err(e) => Err(e),
             Ok(place) => {
                 held.fired = held.store.fired();

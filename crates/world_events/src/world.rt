@@ -16,7 +16,7 @@ use protocol_runs::controllers_fit;
 use ruby_base::Seq;
 use ruby_topology::Topology;
 use ruby_value::NoMemory;
-use run_journal::{Entry, Event, Final, Verdict, finals};
+use run_journal::{Event, Final, Journal, Verdict, finals};
 use sequencer::Driver;
 use slicc_plan::Plan;
 use std::alloc::Global;
@@ -123,7 +123,7 @@ impl<D: Driver> World<D> {
     pub fn into_parts(
         self,
         alloc: Global,
-    ) -> Result<(Plan, Topology, Seq<Event>, Seq<Entry>, Seq<Final>), NoMemory>
+    ) -> Result<(Plan, Topology, Seq<Event>, Journal, Seq<Final>), NoMemory>
         ensures plan { IfOk result (λ p. p.0 ≡ self.trees) }
         ensures topology { IfOk result (λ p. p.1 ≡ self.topology) }
         ensures history { IfOk result (λ p. p.2 ≡ self.history) }

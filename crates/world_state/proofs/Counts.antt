@@ -3,14 +3,14 @@
 use Rattle.std.proofs.Common.{◌≡◌, ◌≤◌, ◌+◌, ◌*◌, ◌++◌, ℕ, Bool, true, List, [], ◌∷◌, Option, None, Some, length, refl, ◌∙◌, ap, arith}
 use Rattle.std.specs.Option.{option_to_list}
 use Rattle.ruby_value.specs.declared.message.MsgNo.{MsgNo}
-use Rattle.std.proofs.lemmas.List.{append-nil, length-append, length-map}
+use Rattle.std.proofs.lemmas.List.{append-nil, length-append}
 use Rattle.ruby_value.specs.declared.message.Delivery.{Delivery}
 use Rattle.run_journal.specs.declared.entry.Entry.{Entry}
 use Rattle.run_journal.specs.declared.event.Event.{Event}
 use Rattle.run_journal.specs.declared.event.Event.TheVariants.{Turn}
 use Rattle.run_journal.specs.declared.verdict.Verdict.{Verdict}
 use Rattle.protocol_runs.specs.Prelude.{consumed_in, consumed_numbers, sent_in, sent_numbers, Change, Closes, IsIdle, Moves, Turns, ContinuesAt, EndsWith, IsOutcome, StopsAt, driven_world, entry_of, messages_in, CarriesMail, IsSound, DriverTurn, Mailed, Rules, IsRun, Ran, start, Stepped, after_driver, begun_place, delivery_numbers, driver_turn_in, next_in, next_world, verdict_in, held_mail, least_stopped, Place, World}
-use Rattle.protocol_runs.proofs.Accounted.{kept-along}
+use Rattle.protocol_runs.proofs.Accounted.{kept-along, requests-count}
 use Rattle.protocol_runs.proofs.Outcomes.{change-outcome}
 use Rattle.protocol_runs.proofs.Runs.{Goes, hold-along, run-more, with_step}
 use Rattle.protocol_runs.proofs.Steps.{change-steps}
@@ -50,7 +50,7 @@ module _ {C M D : Type 0} (r : Rules C M D) (Fits : ℕ → C → ℕ → Type 0
       let own : tally all (sent_numbers (e ∷ [])) ≡ length d.requests =
       tally-true (sent_numbers (e ∷ []))
       ∙ ap (λ (ns : List MsgNo). length ns) (append-nil (delivery_numbers r d.requests))
-      ∙ length-map d.requests (λ (x : Delivery M). r.number x.message) in
+      ∙ requests-count r Fits Suits Leads sound carries history w journal is running in
       omega (arith, after, same, more, less, own, tally-true (sent_numbers (journal ++ e ∷ [])), tally-true (consumed_numbers (journal ++ e ∷ [])), tally-true (sent_numbers journal), tally-true (consumed_numbers journal))
 
   -- a run that goes on has had few turns, and at each few requests were issued

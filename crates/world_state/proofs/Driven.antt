@@ -9,6 +9,7 @@ use Rattle.ruby_value.specs.declared.message.Delivery.{Delivery}
 use Rattle.ruby_value.specs.declared.message.Message.{Message}
 use Rattle.ruby_value.specs.declared.message.MsgNo.{MsgNo}
 use Rattle.run_journal.specs.declared.entry.Entry.{Entry}
+use Rattle.run_journal.specs.Prelude as run_journal
 use Rattle.protocol_runs.specs.World as runs
 use Rattle.ctl_face.specs.Prelude.{Ctl}
 use Rattle.protocol_runs.specs.Prelude.{request_messages, seat_in, seats_in}
@@ -140,7 +141,6 @@ module _ {D : Type 0} (least : D → ℕ) (needs : D → ℕ → ℕ) (drive : D
       → length (requests_in seats old d) ≡ length d.issued → length d.issued ≤ owned.room → IfSome d.finding HasLine → CanEnd told new
   can-end new told room has acted home mail finding numbers messages few line =
       let journal : new.book.journal ≡ mid.book.journal = ap (λ (b : Booked). b.journal) acted.book in
-      let entries : length new.book.journal ≡ length mid.book.journal = ap (λ (es : List Entry). length es) journal in
       let number : length told.numbers ≡ length d.issued =
       ap (λ (ns : List MsgNo). length ns) numbers
       ∙ length-map (requests_in seats mid d) (λ (m : Delivery Message). m.message.number)
@@ -152,7 +152,12 @@ module _ {D : Type 0} (least : D → ℕ) (needs : D → ℕ → ℕ) (drive : D
         line = subst (λ (o : Option Finding). IfSome o HasLine) (sym finding) line;
         mail = mail ∙ has.mail ∙ sym (ap (λ (es : List Entry). messages_in es) journal);
         mail_fits = omega (arith, mail, number, few, has.mail_fits);
-        entries_fit = omega (arith, entries, has.entries_fit);
         event = subst (λ (b : Booked). 0 < b.event_room) (sym acted.book) has.event;
-        entry = subst (λ (b : Booked). 0 < b.entry_room) (sym acted.book) has.entry;
+        entry =
+            subst (λ (b : Booked). run_journal.HasRoomFor 1 (length told.numbers) 0 b.entry_room) (sym acted.book)
+            (record {
+              entries_fit = has.entry.entries_fit;
+              numbers_fit = omega (arith, number, few, has.entry.numbers_fit);
+              sents_fit = has.entry.sents_fit;
+            });
       }

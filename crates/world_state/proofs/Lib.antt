@@ -4,7 +4,6 @@ pub mod Stepping
 pub mod Firing
 pub mod Copies
 pub mod Arriving
-pub mod Counting
 pub mod Rooms
 pub mod SameMade
 pub mod Openings

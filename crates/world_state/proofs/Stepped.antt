@@ -2,6 +2,7 @@
 -- is that of the run.
 use Rattle.std.proofs.Common.{◌≡◌, ◌+◌, ◌-◌, ◌++◌, ◌||◌, ◌&&◌, not, ℕ, suc, Bool, false, List, [], ◌∷◌, Option, None, Some, length, refl, sym, ◌∙◌, ap, subst, slice_get, arith}
 use Rattle.std.proofs.lemmas.List.{length-map}
+use Rattle.std.proofs.lemmas.List.Concat.{flat_map_single}
 use Rattle.std.specs.List.{list_any, position}
 use Rattle.ruby_value.specs.Prelude.{has_mark}
 use Rattle.ruby_value.specs.declared.fault.Finding.{Finding}
@@ -205,6 +206,7 @@ module _ {D : Type 0} (drive : D → List Seat → ℕ → Drive D) (needs : D �
       let numbers : List MsgNo = numbers_of (requests_in seats old did) in
       let m : World Ctl D = world_of held mid in
       ap (λ (w : World Ctl D). ends w (delivery_numbers Rs d.requests) d.finding (step.next_in Rs w) o) mid-world
+      ∙ ap (λ (ns : List MsgNo). ends m ns d.finding (step.next_in Rs m) o) (flat_map_single (λ (x : Delivery Message). x.message.number) d.requests)
       ∙ ap (λ (ds : List (Delivery Message)). ends m (numbers_of ds) d.finding (step.next_in Rs m) o) (sym asks-are)
       ∙ ap (λ (e : Drive D). ends m numbers e.finding (step.next_in Rs m) o) (sym did-is)
       ∙ ap (λ (k : Option ℕ). ends m numbers did.finding k o) mid-next

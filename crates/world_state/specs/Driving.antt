@@ -4,6 +4,7 @@ use Rattle.std.specs.Prelude.{◌≡◌, ◌<◌, ◌≤◌, ◌+◌, ◌^◌, �
 use Rattle.std.specs.List.{All}
 use Rattle.ruby_value.specs.Prelude.{IsRequest, Roomy}
 use Rattle.ctl_face.specs.Prelude.{Ctl}
+use Rattle.run_journal.specs.Prelude as run_journal
 use Rattle.sequencer.specs.declared.issued.Issued.{Issued}
 use Rattle.sequencer.specs.Prelude.{Drive, after_drive, FitSeats, Seat, Seating}
 use Rattle.world_state.specs.Arrivals.{CanArrive, HasRoom, delivered}
@@ -25,7 +26,7 @@ pub record CanAct {D : Type 0} (least : D → ℕ) (drive : D → List Seat → 
   pub cycles : ℕ
   pub can : CanTurn least drive cycles seats st
 
--- there is memory for so many requests, for a turn's event and for its entry; and 64 bits can count the messages and entries
+-- there is memory for so many requests, for a turn's event and for its entry; and 64 bits can count the messages
 pub record HasRoomToAct {D : Type 0} (requests : ℕ) (r : Room) (st : State D) : Type 0 where
   pub few : requests < 2 ^ 32
   pub lists : HasRoomFor requests r.requests
@@ -33,9 +34,8 @@ pub record HasRoomToAct {D : Type 0} (requests : ℕ) (r : Room) (st : State D) 
   pub places : All (HasRoom requests) st.places.items
   pub mail : r.mail ≡ messages_in st.book.journal
   pub mail_fits : r.mail + requests < 2 ^ 64
-  pub entries_fit : length st.book.journal + 1 < 2 ^ 64
   pub event : 0 < st.book.event_room
-  pub entry : 0 < st.book.entry_room
+  pub entry : run_journal.HasRoomFor 1 requests 0 st.book.entry_room
 
 -- the sequencers of the seats are out of their stores, and when sequencers are put back it will be as if they hadn't been
 pub record AreOut {D : Type 0} (seats : List SeatAt) (kept : Seating) (old new : State D) : Type 0 where
@@ -102,13 +102,12 @@ module _ {D : Type 0} (seats : List SeatAt) (kept : Seating) (d : Drive D) where
     pub verdict : new.verdict ≡ old.verdict
     pub book : new.book ≡ old.book
 
--- the end of the cycle can follow: nobody is held, the finding names a line, and 64 bits can count the messages and entries
+-- the end of the cycle can follow: nobody is held, the finding names a line, and 64 bits can count the messages
 pub record CanEnd {D : Type 0} (told : Told) (st : State D) : Type 0 where
   pub cycle : st.now ≤ 10 ^ 12
   pub home : All IsHome st.places.items
   pub line : IfSome told.finding HasLine
   pub mail : told.mail ≡ messages_in st.book.journal
   pub mail_fits : told.mail + length told.numbers < 2 ^ 64
-  pub entries_fit : length st.book.journal + 1 < 2 ^ 64
   pub event : 0 < st.book.event_room
-  pub entry : 0 < st.book.entry_room
+  pub entry : run_journal.HasRoomFor 1 (length told.numbers) 0 st.book.entry_room

@@ -2,6 +2,7 @@ pub mod Booked
 pub mod States
 pub mod Steps
 pub mod Ended
+pub mod Firing
 pub mod Opened
 pub mod Closed
 pub mod Places

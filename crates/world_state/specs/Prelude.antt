@@ -1,5 +1,5 @@
 -- The definitions that other files name, from one place.
-pub use Rattle.world_state.specs.Booked.{AreCounted, Booked}
+pub use Rattle.world_state.specs.Booked.{Booked}
 pub use Rattle.world_state.specs.States.{AreMade, IsHeldBy, IsHeldIn, IsKept, IsLone, IsMadeFor, IsNobody, held_place, home_place, world_of}
 pub use Rattle.world_state.specs.Steps.{IsSame, IsStep, SameCycle, Writes}
 pub use Rattle.world_state.specs.Ended.{ended, rested}

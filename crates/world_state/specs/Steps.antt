@@ -3,6 +3,7 @@ use Rattle.std.specs.Prelude.{◌≡◌, ◌≤◌, ℕ, Option, None, Some, Lis
 use Rattle.std.specs.Option.{option_to_list}
 use Rattle.run_journal.specs.declared.entry.Entry.{Entry}
 use Rattle.run_journal.specs.declared.event.Event.{Event}
+use Rattle.run_journal.specs.Prelude.{KeepsRoom}
 use Rattle.protocol_runs.specs.Prelude.{step, Meaning, rules, Setting}
 use Rattle.ctl_face.specs.Prelude.{Ctl}
 use Rattle.sequencer.specs.Prelude.{Drive, Seat}
@@ -31,6 +32,7 @@ pub record IsSame {D : Type 0} (old new : State D) : Type 0 where
   pub history : new.book.history ≡ old.book.history
   pub journal : new.book.journal ≡ old.book.journal
   pub room : old.book.event_room ≤ new.book.event_room
+  pub entry_room : KeepsRoom 0 0 0 old.book.entry_room new.book.entry_room
 
 -- one lawful event of the run, where the held controllers before and after it are these
 pub record IsStep {D : Type 0} (p : Meaning) (drive : D → List Seat → ℕ → Drive D) (s : Setting D) (held : Ctl) (old : State D) (e : Event) (held_after : Ctl) (new : State D) : Type 0 where

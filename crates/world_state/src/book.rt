@@ -1,10 +1,11 @@
 //! What has happened in a run so far.
-ghost use Rattle.std.specs.Prelude.{◌≡◌, ◌≤◌, ◌<◌, ◌+◌, [], ◌∷◌, ◌++◌, IsSomeAnd, OnOk, length};
-ghost use Rattle.std.specs.Option.{ForSome};
-ghost use Rattle.protocol_runs.specs.Prelude.{consumed_in, consumed_numbers, sent_in, sent_numbers};
+ghost use Rattle.std.specs.Prelude.{◌≡◌, ◌≤◌, ◌<◌, ◌+◌, ◌-◌, ◌^◌, [], ◌∷◌, ◌++◌, OnOk, length};
+ghost use Rattle.run_journal.specs.declared.entry.Entry.TheVariants as entry;
+ghost use Rattle.run_journal.specs.declared.event.Event.TheVariants as event;
+ghost use Rattle.run_journal.specs.Prelude.{HasFew, HasRoomFor, KeepsRoom, consumed_numbers, fired_of, numbers_in, sent_numbers};
 
-use ruby_value::{NoMemory, Seq};
-use run_journal::{Entry, Event};
+use ruby_value::{Finding, MsgNo, NoMemory, Seq};
+use run_journal::{End, Event, FireLists, FireNote, Journal, JournalWriter, Verdict};
 use std::alloc::Global;
 use std::marker::Model;
 
@@ -13,45 +14,21 @@ use std::marker::Model;
 #[derive(Drop)]
 pub struct Book {
     history: Vec<Event>,
-    journal: Vec<Entry>,
-    // How many messages were sent and consumed, or `None` where there are more than 64 bits can count.
-    sent: Option<u64>,
-    consumed: Option<u64>,
+    journal: JournalWriter,
 }
 
 impl Model for Book {
     ghost use Rattle.std.specs.Prelude.{◌-◌, vec_capacity, vec_len};
-    ghost use Rattle.world_state.specs.Booked.{AreCounted, Booked};
+    ghost use Rattle.world_state.specs.Booked.{Booked};
 
     ghost Value = { Booked };
 
     ghost view = { λ b. record {
       history = b.history.items;
-      journal = b.journal.items;
+      journal = b.journal.entries;
       event_room = vec_capacity b.history - vec_len b.history;
-      entry_room = vec_capacity b.journal - vec_len b.journal;
+      entry_room = b.journal.room;
     } };
-
-    ghost invariant = { λ b. AreCounted b.journal.items b.sent b.consumed };
-}
-
-// How many messages an entry has as sent or issued, and how many as consumed.
-fn counts_in(entry: &Entry) -> (u64, u64)
-    ensures sent { result.0 ≡ length (sent_in entry.now) }
-    ensures consumed { result.1 ≡ length (consumed_in entry.now) }
-{
-    match entry {
-        Entry::Fired { consumed, sent, .. } => (sent.len() as u64, consumed.len() as u64),
-        Entry::Ended { .. } => (0, 0),
-        Entry::Turned { issued, .. } => (issued.len() as u64, 0),
-    }
-}
-
-// One count and another, where 64 bits can count them.
-fn plus(count: Option<u64>, more: u64) -> Option<u64>
-    ensures { ForSome result (λ n. IsSomeAnd count (λ k. n ≡ k + more)) }
-{
-    count?.checked_add(more)
 }
 
 impl Book {
@@ -62,23 +39,23 @@ impl Book {
     {
         Book {
             history: Vec::new(alloc),
-            journal: Vec::new(alloc),
-            sent: Some(0),
-            consumed: Some(0),
+            journal: JournalWriter::new(alloc),
         }
     }
 
-    /// Makes room for so many events, and for one entry, or answers that there is no memory for them.
-    pub fn reserve(&mut self, events: usize) -> Result<(), NoMemory>
+    /// Makes room for so many events, and for one entry with so many numbers and copies in its lists, or answers that there is none.
+    /// No room is lost.
+    pub fn reserve(&mut self, events: usize, numbers: usize, sents: usize) -> Result<(), NoMemory>
         ensures history { self.new.history ≡ self.old.history }
         ensures journal { self.new.journal ≡ self.old.journal }
         ensures ok { OnOk result (events ≤ self.new.event_room) }
-        ensures entry { OnOk result (0 < self.new.entry_room) }
+        ensures entry { OnOk result (HasRoomFor 1 numbers sents self.new.entry_room) }
+        ensures few { OnOk result (HasFew 1 numbers sents) }
         ensures no_less { self.old.event_room ≤ self.new.event_room }
+        ensures no_fewer { KeepsRoom 0 0 0 self.old.entry_room self.new.entry_room }
     {
         self.history.reserve(events)?;
-        self.journal.reserve(1)?;
-        Ok(())
+        self.journal.reserve(1, numbers, sents)
     }
 
     /// An event without an entry is written, for which there is room. It takes no memory.
@@ -87,28 +64,70 @@ impl Book {
         ensures history { self.new.history ≡ self.old.history ++ event ∷ [] }
         ensures journal { self.new.journal ≡ self.old.journal }
         ensures room { self.old.event_room ≡ self.new.event_room + 1 }
+        ensures entry_room { self.new.entry_room ≡ self.old.entry_room }
     {
         self.history.push_reserved(event);
     }
 
-    /// An event and its entry are written, for which there is room. It takes no memory.
-    pub fn write(&mut self, event: Event, entry: Entry)
+    /// A transition and its entry are written, for which there is room. It takes no memory.
+    pub fn write_fire(
+        &mut self,
+        worker: u32,
+        controller: u32,
+        cycle: u64,
+        note: FireNote,
+        lists: FireLists<'_>,
+    )
         requires event { 0 < self.old.event_room }
-        requires entry { 0 < self.old.entry_room }
-        ensures history { self.new.history ≡ self.old.history ++ event ∷ [] }
-        ensures journal { self.new.journal ≡ self.old.journal ++ entry ∷ [] }
+        requires entry { HasRoomFor 1 (numbers_in lists) (length lists.sent.now) self.old.entry_room }
+        ensures history { self.new.history ≡ self.old.history ++ event.Fire worker controller ∷ [] }
+        ensures journal { self.new.journal ≡ self.old.journal ++ fired_of cycle controller note lists.entry ∷ [] }
         ensures room { self.old.event_room ≡ self.new.event_room + 1 }
+        ensures entry_room { KeepsRoom 1 (numbers_in lists.entry) (length lists.entry.sent.now) self.old.entry_room self.new.entry_room }
     {
-        let counts = counts_in(&entry);
-        self.sent = plus(self.sent, counts.0);
-        self.consumed = plus(self.consumed, counts.1);
-        self.journal.push_reserved(entry);
-        self.history.push_reserved(event);
+        self.journal.push_fired(cycle, controller, note, lists);
+        self.history
+            .push_reserved(Event::Fire { worker, controller });
+    }
+
+    /// The end of a wake-up and its entry are written, for which there is room. It takes no memory.
+    pub fn write_end(&mut self, worker: u32, controller: u32, cycle: u64, end: End)
+        requires event { 0 < self.old.event_room }
+        requires entry { HasRoomFor 1 0 0 self.old.entry_room }
+        ensures history { self.new.history ≡ self.old.history ++ event.Done worker controller ∷ [] }
+        ensures journal { self.new.journal ≡ self.old.journal ++ entry.Ended cycle controller end ∷ [] }
+        ensures room { self.old.event_room ≡ self.new.event_room + 1 }
+        ensures entry_room { KeepsRoom 1 0 0 self.old.entry_room self.new.entry_room }
+    {
+        self.journal.push_ended(cycle, controller, end);
+        self.history
+            .push_reserved(Event::Done { worker, controller });
+    }
+
+    /// A turn and its entry are written, for which there is room. It takes no memory.
+    pub fn write_turn(
+        &mut self,
+        worker: u32,
+        cycle: u64,
+        issued: &[MsgNo],
+        finding: Option<Finding>,
+        verdict: Option<Verdict>,
+    )
+        requires event { 0 < self.old.event_room }
+        requires entry { HasRoomFor 1 (length issued.now) 0 self.old.entry_room }
+        ensures history { self.new.history ≡ self.old.history ++ event.Turn worker ∷ [] }
+        ensures journal { self.new.journal ≡ self.old.journal ++ entry.Turned cycle issued.now finding verdict ∷ [] }
+        ensures room { self.old.event_room ≡ self.new.event_room + 1 }
+        ensures entry_room { KeepsRoom 1 (length issued.now) 0 self.old.entry_room self.new.entry_room }
+    {
+        self.journal.push_turned(cycle, issued, finding, verdict);
+        self.history.push_reserved(Event::Turn { worker });
     }
 
     /// How many entries there are.
     pub fn entries(&self) -> u64
-        ensures { result ≡ length self.now.journal }
+        ensures value { result ≡ length self.now.journal }
+        ensures few { result < 2 ^ 32 }
     {
         self.journal.len() as u64
     }
@@ -119,31 +138,27 @@ impl Book {
         &self.history
     }
 
-    pub fn journal(&self) -> &[Entry]
-        ensures { result.now ≡ self.now.journal }
+    /// How many messages were sent, requests of the driver included.
+    pub fn sent(&self) -> u64
+        ensures value { result ≡ length (sent_numbers self.now.journal) }
+        ensures few { result ≤ 2 ^ 64 - 2 ^ 32 }
     {
-        &self.journal
+        self.journal.sent()
     }
 
-    /// How many messages were sent, or `None` where there are more than 64 bits can count.
-    pub fn sent(&self) -> Option<u64>
-        ensures { ForSome result (λ n. n ≡ length (sent_numbers self.now.journal)) }
+    /// How many messages were consumed.
+    pub fn consumed(&self) -> u64
+        ensures value { result ≡ length (consumed_numbers self.now.journal) }
+        ensures few { result ≤ 2 ^ 64 - 2 ^ 32 }
     {
-        self.sent
-    }
-
-    /// How many messages were consumed, or `None` where there are more than 64 bits can count.
-    pub fn consumed(&self) -> Option<u64>
-        ensures { ForSome result (λ n. n ≡ length (consumed_numbers self.now.journal)) }
-    {
-        self.consumed
+        self.journal.consumed()
     }
 
     /// The history and the journal. It takes no memory.
-    pub fn into_parts(self) -> (Seq<Event>, Seq<Entry>)
+    pub fn into_parts(self) -> (Seq<Event>, Journal)
         ensures history { result.0 ≡ self.history }
         ensures journal { result.1 ≡ self.journal }
     {
-        (Seq::of(self.history), Seq::of(self.journal))
+        (Seq::of(self.history), self.journal.into_journal())
     }
 }

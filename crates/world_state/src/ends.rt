@@ -2,6 +2,7 @@
 ghost use Rattle.std.specs.Prelude.{◌≡◌, ◌≤◌, ◌<◌, ◌+◌, ◌^◌, IfErr, IfOk, OnErr, OnOk, Some, length, IfSome};
 ghost use Rattle.run_journal.specs.declared.entry.Entry.TheVariants as entry;
 ghost use Rattle.run_journal.specs.declared.event.Event.TheVariants as event;
+ghost use Rattle.run_journal.specs.Prelude.{HasRoomFor, KeepsRoom};
 ghost use Rattle.ctl_store.specs.Prelude.{ctl_of, HasRoomForMark, IsSameStore};
 ghost use Rattle.world_state.specs.Places.{IsEndedAt, made_for};
 ghost use Rattle.world_state.specs.Ended.{ended};
@@ -12,7 +13,7 @@ ghost use Rattle.world_state.specs.Cycle.{HasLine};
 use crate::{Book, Kept, State, end_at};
 use ctl_store::Store;
 use ruby_value::{Finding, NoMemory};
-use run_journal::{End, Entry, Event, Verdict};
+use run_journal::{End, Verdict};
 
 // Makes room for the end of a wake-up, or answers that there is no memory for it.
 fn room_to_end(book: &mut Book, store: &mut Store) -> Result<(), NoMemory>
@@ -23,10 +24,11 @@ fn room_to_end(book: &mut Book, store: &mut Store) -> Result<(), NoMemory>
     ensures no_less { book.old.event_room ≤ book.new.event_room }
     ensures mark { OnOk result (HasRoomForMark store.new) }
     ensures event { OnOk result (0 < book.new.event_room) }
-    ensures entry { OnOk result (0 < book.new.entry_room) }
+    ensures entry { OnOk result (HasRoomFor 1 0 0 book.new.entry_room) }
+    ensures no_fewer { KeepsRoom 0 0 0 book.old.entry_room book.new.entry_room }
 {
     store.room(0)?;
-    book.reserve(1)
+    book.reserve(1, 0, 0)
 }
 
 // The controller of a store ends its wake-up so. It takes no memory.
@@ -78,18 +80,7 @@ impl<D> State<D> {
         let place = self.book.entries();
         end_store(&mut kept.store, self.now, stalled, &end);
         end_at(&mut self.places, c, kept);
-        let entry = Entry::Ended {
-            cycle: self.now,
-            controller: c,
-            end,
-        };
-        self.book.write(
-            Event::Done {
-                worker,
-                controller: c,
-            },
-            entry,
-        );
+        self.book.write_end(worker, c, self.now, end);
         Ok(place)
     }
 }

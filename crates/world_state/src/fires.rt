@@ -1,69 +1,59 @@
 //! How a transition fires, and what is taken for it or for a turn before anything changes.
-ghost use Rattle.std.specs.Prelude.{◌≡◌, ◌≤◌, ◌<◌, ◌+◌, ◌^◌, ℕ, IfErr, IfOk, OnErr, OnOk, Some, length};
+ghost use Rattle.std.specs.Prelude.{◌≡◌, ◌≤◌, ◌<◌, ◌+◌, ◌-◌, ◌^◌, ℕ, IfErr, IfOk, OnErr, OnOk, Some, length};
 ghost use Rattle.std.specs.List.{All};
-ghost use Rattle.std.specs.Option.{ForSome};
 ghost use Rattle.run_journal.specs.declared.event.Event.TheVariants as event;
 ghost use Rattle.protocol_runs.specs.Prelude.{fired_entry, acts_told};
 ghost use Rattle.ctl_face.specs.Prelude.{with_one_fired, Ctl};
 ghost use Rattle.ctl_store.specs.Prelude.{ctl_of, IsSameStore, HasRoomForOutcome, IsOutcomeFor, note_of, outcome_acts, outcome_ctl};
 ghost use Rattle.world_state.specs.Arrivals.{CanArrive, HasRoom, delivered};
 ghost use Rattle.world_state.specs.Places.{made_in, places_with};
+ghost use Rattle.world_state.specs.Firing.{HasRoomForFire};
 ghost use Rattle.world_state.specs.Steps.{IsSame, SameCycle, Writes};
 ghost use Rattle.world_state.specs.Driving.{AreOut, CanAct, HasRoomToAct};
 ghost use Rattle.world_state.specs.Turned.{messages_in};
 
 use crate::all_seats::{put_seats, take_seats};
 use crate::requests::Requests;
-use crate::{Book, SeatAt, State, deliver, seats_are_put_back, seats_are_ready};
+use crate::{Book, SeatAt, State, deliver, room_for_all, seats_are_put_back, seats_are_ready};
 use ctl_store::{Outcome, Store};
-use ruby_value::{NoMemory, Seq};
-use run_journal::{Entry, Event};
+use ruby_value::NoMemory;
+use run_journal::FireLists;
 use sequencer::{Driver, OwnedSeats};
 use std::alloc::Global;
 
-// The entry of a transition of a controller that fired at a cycle.
-fn fired_entry(alloc: Global, cycle: u64, controller: u32, o: &Outcome) -> Result<Entry, NoMemory>
-    ensures { IfOk result (λ e. e
-        ≡ fired_entry cycle controller (note_of o.now) (acts_told (outcome_acts o.now))) }
+// The lists of an outcome's acts.
+fn lists_of(o: &Outcome) -> FireLists<'_>
+    ensures consumed { result.consumed.now ≡ (outcome_acts o.now).consumed }
+    ensures sent { result.sent.now ≡ (outcome_acts o.now).sent }
+    ensures stalled { result.stalled.now ≡ (outcome_acts o.now).stalled }
+    ensures woken { result.woken.now ≡ (outcome_acts o.now).woken }
+    ensures recycled { result.recycled.now ≡ (outcome_acts o.now).recycled }
 {
-    Ok(Entry::Fired {
-        cycle,
-        controller,
-        note: o.note(),
-        consumed: Seq::copied(alloc, o.consumed())?,
-        sent: Seq::copied(alloc, o.sent())?,
-        stalled: Seq::copied(alloc, o.stalled())?,
-        woken: Seq::copied(alloc, o.woken())?,
-        recycled: Seq::copied(alloc, o.recycled())?,
-    })
+    FireLists {
+        consumed: o.consumed(),
+        sent: o.sent(),
+        stalled: o.stalled(),
+        woken: o.woken(),
+        recycled: o.recycled(),
+    }
 }
 
 impl<D> State<D> {
     // Makes room for what a transition changes and sends, and for one event more, or answers that there is no memory for it.
-    fn room_to_fire(
-        &mut self,
-        alloc: Global,
-        c: u32,
-        store: &mut Store,
-        o: &Outcome,
-    ) -> Result<Entry, NoMemory>
+    fn room_to_fire(&mut self, store: &mut Store, o: &Outcome) -> Result<(), NoMemory>
         ensures same { IsSame self.old self.new }
         ensures ctl { ctl_of store.new ≡ ctl_of store.old }
         ensures store { IsSameStore store.old store.new }
-        ensures entry { IfOk result (λ e. e
-            ≡ fired_entry self.old.now c (note_of o.now) (acts_told (outcome_acts o.now))) }
         ensures outcome { OnOk result (HasRoomForOutcome store.new o.now) }
         ensures copies { OnOk result
             (All (HasRoom (length (outcome_acts o.now).sent)) self.new.places.items) }
         ensures events { OnOk result (2 ≤ self.new.book.event_room) }
-        ensures entries { OnOk result (0 < self.new.book.entry_room) }
+        ensures entry { OnOk result (HasRoomForFire (outcome_acts o.now) self.new.book.entry_room) }
     {
-        let Ok(copies) = u32::try_from(o.sent().len()) else {
-            return Err(NoMemory);
-        };
+        let lists = lists_of(o);
+        self.book.reserve(2, lists.numbers(), lists.sent.len())?;
         store.reserve(o)?;
-        self.reserve(2, copies)?;
-        fired_entry(alloc, self.now, c, o)
+        room_for_all(&mut self.places, lists.sent.len() as u32)
     }
 
     /// A scan of a controller that a worker holds has fired: its outcome is applied to the store, and its copies come to their
@@ -71,7 +61,6 @@ impl<D> State<D> {
     /// event more.
     pub fn fire(
         &mut self,
-        alloc: Global,
         worker: u32,
         c: u32,
         store: &mut Store,
@@ -95,20 +84,14 @@ impl<D> State<D> {
         ensures err_ctl { OnErr result (ctl_of store.new ≡ ctl_of store.old) }
         ensures err_outcome { IfErr result (λ e. e.1 ≡ o) }
     {
-        let entry = match self.room_to_fire(alloc, c, store, &o) {
-            Ok(entry) => entry,
-            Err(e) => return Err((e, o)),
-        };
+        if let Err(e) = self.room_to_fire(store, &o) {
+            return Err((e, o));
+        }
         let place = self.book.entries();
+        self.book
+            .write_fire(worker, c, self.now, o.note(), lists_of(&o));
         let posted = store.apply(o);
         deliver(&mut self.places, posted);
-        self.book.write(
-            Event::Fire {
-                worker,
-                controller: c,
-            },
-            entry,
-        );
         Ok(place)
     }
 }
@@ -127,26 +110,12 @@ pub(crate) struct Ready {
     pub(crate) room: Room,
 }
 
-// How many messages are in inboxes, where 64 bits can count what was sent and consumed.
-fn mail_in(book: &Book) -> Option<u64>
-    ensures { ForSome result (λ n. n ≡ messages_in book.now.journal) }
+// How many messages are in inboxes.
+fn mail_in(book: &Book) -> u64
+    ensures value { result ≡ messages_in book.now.journal }
+    ensures few { result ≤ 2 ^ 64 - 2 ^ 32 }
 {
-    let sent = book.sent()?;
-    let consumed = book.consumed()?;
-    Some(sent.saturating_sub(consumed))
-}
-
-// How many messages are in inboxes. Where 64 bits can't count them with so many requests more, or the entries with one more, there is
-// no memory for them either.
-fn counted(book: &Book, requests: u32) -> Result<u64, NoMemory>
-    ensures mail { IfOk result (λ n. n ≡ messages_in book.now.journal) }
-    ensures mail_fits { IfOk result (λ n. n + requests < 2 ^ 64) }
-    ensures entries_fit { OnOk result (length book.now.journal + 1 < 2 ^ 64) }
-{
-    match mail_in(book) {
-        Some(mail) if mail < u64::MAX - requests as u64 && book.entries() < u64::MAX => Ok(mail),
-        _ => Err(NoMemory),
-    }
+    book.sent().saturating_sub(book.consumed())
 }
 
 // Takes memory for all that a driver may issue at these seats, or answers that there is none.
@@ -163,12 +132,11 @@ fn room_at<D: Driver>(
     ensures ok { IfOk result (λ room. HasRoomToAct owned.new.room room st.new) }
 {
     st.driver.reserve(st.now, owned)?;
-    let Ok(requests) = u32::try_from(owned.room()) else {
-        return Err(NoMemory);
-    };
-    let mail = counted(&st.book, requests)?;
-    st.reserve(1, requests)?;
-    let requests = Requests::with_room(alloc, requests as usize)?;
+    let requests = owned.room();
+    st.book.reserve(1, requests, 0)?;
+    room_for_all(&mut st.places, requests as u32)?;
+    let mail = mail_in(&st.book);
+    let requests = Requests::with_room(alloc, requests)?;
     Ok(Room { requests, mail })
 }
 

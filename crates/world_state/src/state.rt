@@ -1,16 +1,14 @@
 //! A world's data: as a run begins, how a worker takes a controller and gives it back, and how the run ends with one that has stopped.
 ghost use Rattle.std.specs.Prelude.{◌≡◌, ◌≤◌, ◌<◌, ◌∷◌, [], ◌++◌, IfOk, OnErr, OnOk, None, length};
-ghost use Rattle.std.specs.List.{All};
 ghost use Rattle.run_journal.specs.declared.event.Event.TheVariants as event;
-ghost use Rattle.world_state.specs.Arrivals.{HasRoom};
 ghost use Rattle.world_state.specs.Places.{IsHomeAt, IsPutBack, IsTakenOut};
 ghost use Rattle.world_state.specs.Steps.{IsSame, SameCycle, Writes};
 ghost use Rattle.world_state.specs.Opened.{IsOpening};
 ghost use Rattle.world_state.specs.Closed.{IsClosed};
 
-use crate::{Book, Keeper, Kept, Place, put_back, room_for_all, take_out};
-use ruby_value::{NoMemory, Seq};
-use run_journal::{Entry, Event, Verdict};
+use crate::{Book, Keeper, Kept, Place, put_back, take_out};
+use ruby_value::NoMemory;
+use run_journal::{Event, Verdict};
 use std::alloc::Global;
 
 /// The data of a world. The controllers stand by their numbers; one that a worker holds is out of its place. `issued` is how many
@@ -27,19 +25,6 @@ pub struct State<D> {
 }
 
 impl<D> State<D> {
-    /// Makes room for so many events, for one entry, and for so many messages at each controller that nobody holds, or answers that
-    /// there is no memory for them.
-    pub fn reserve(&mut self, events: usize, messages: u32) -> Result<(), NoMemory>
-        ensures same { IsSame self.old self.new }
-        ensures messages { OnOk result (All (HasRoom messages) self.new.places.items) }
-        ensures events { OnOk result (events ≤ self.new.book.event_room) }
-        ensures entry { OnOk result (0 < self.new.book.entry_room) }
-    {
-        room_for_all(&mut self.places, messages)?;
-        self.book.reserve(events)?;
-        Ok(())
-    }
-
     /// A worker takes a controller that nobody holds. It makes room for one event more, beside its own.
     pub fn take(&mut self, worker: u32, c: u32) -> Result<Kept, NoMemory>
         requires { IsHomeAt self.old.places.items c }
@@ -50,7 +35,7 @@ impl<D> State<D> {
         ensures cycle { SameCycle self.old self.new }
         ensures err { OnErr result (IsSame self.old self.new) }
     {
-        self.book.reserve(2)?;
+        self.book.reserve(2, 0, 0)?;
         let kept = take_out(&mut self.places, worker, c);
         self.book.note(Event::Take {
             worker,
@@ -103,23 +88,17 @@ impl<D> State<D> {
 
 impl<D> State<D> {
     /// A turn ends the run with a controller that has stopped. The driver doesn't act.
-    pub fn close(&mut self, alloc: Global, worker: u32, controller: u32) -> Result<(), NoMemory>
+    pub fn close(&mut self, worker: u32, controller: u32) -> Result<(), NoMemory>
         ensures ok { OnOk result (IsClosed worker controller self.old self.new) }
         ensures err { OnErr result (IsSame self.old self.new) }
     {
-        self.book.reserve(1)?;
+        self.book.reserve(1, 0, 0)?;
         let verdict = Some(Verdict::Stop {
             cycle: self.now,
             controller,
         });
-        let entry = Entry::Turned {
-            cycle: self.now,
-            issued: Seq::new(alloc),
-            finding: None,
-            verdict,
-        };
         self.verdict = verdict;
-        self.book.write(Event::Turn { worker }, entry);
+        self.book.write_turn(worker, self.now, &[], None, verdict);
         Ok(())
     }
 }

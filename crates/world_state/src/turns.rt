@@ -13,7 +13,7 @@ use crate::{
     seats_are_ready, turned_data_are_steps, verdict_after,
 };
 use ruby_value::NoMemory;
-use run_journal::{Entry, Event, Verdict};
+use run_journal::Verdict;
 use sequencer::{Driver, Sequencer};
 use std::alloc::Global;
 
@@ -77,7 +77,7 @@ pub fn turn<D: Driver>(
     seats_are_ready::<D>();
     match least_stopped(&st.places) {
         Some(controller) => {
-            st.close(alloc, worker, controller)?;
+            st.close(worker, controller)?;
             Ok(st.verdict)
         }
         None => {
@@ -118,13 +118,9 @@ pub(crate) fn end_cycle<D>(
     let next = next_cycle(st.now, st.next, &st.places);
     let entries = st.book.entries() + 1;
     let verdict = verdict_after(st.now, cycles, next, told.finding, entries, messages);
-    let entry = Entry::Turned {
-        cycle: st.now,
-        issued: told.numbers,
-        finding: told.finding,
-        verdict,
-    };
+    let now = st.now;
     go_on(st, next, verdict);
-    st.book.write(Event::Turn { worker }, entry);
+    st.book
+        .write_turn(worker, now, &told.numbers, told.finding, verdict);
     verdict
 }

@@ -1,9 +1,9 @@
-// The machine whose controller the calls are made on, the routes, and what its calls need to know of it. There are three controllers:
+// The machine whose controller the calls are made on, the routes, and where it keeps the machines' numbers. There are three controllers:
 // two of the first machine, and this one, the only one of the second. The third machine has none.
-use built_in_acts::{CallSetting, KeptMachines};
+use built_in_acts::KeptMachines;
 use controller_rows::{BufferRow, MachineRow, Network, TableRow};
 use ctl_face::{BufferPlace, MachineSetup, NoMemory, Routes, TableSize};
-use ruby_value::{Kind, Seq};
+use ruby_value::Kind;
 use std::alloc::Global;
 
 pub(crate) const ME: u32 = 2;
@@ -85,16 +85,12 @@ pub(crate) fn machine(alloc: Global) -> Result<MachineSetup, NoMemory> {
 /// each of three machines.
 pub(crate) const KEPT_NUMBERS: &[(u16, i64)] = &[(1, 0), (2, 2), (3, 2), (4, 1), (5, 0), (6, 0)];
 
-pub(crate) fn setting(alloc: Global) -> Result<CallSetting, NoMemory> {
-    Ok(CallSetting {
-        tbe_references: Seq::copied(alloc, &[false, false, true, true, false])?,
-        kept: KeptMachines {
-            table: PARAMETERS,
-            first: 1,
-            count: 3,
-        },
-    })
-}
+/// Where they stand.
+pub(crate) const KEPT: KeptMachines = KeptMachines {
+    table: PARAMETERS,
+    first: 1,
+    count: 3,
+};
 
 /// The routes. Nobody takes the messages of any network.
 pub(crate) fn routes(alloc: Global) -> Result<Routes, NoMemory> {

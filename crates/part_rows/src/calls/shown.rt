@@ -1,6 +1,6 @@
 // Values and answers as text: a value is its kind's name and its numbers, a block is 128 hexadecimal digits.
 use ctl_face::Trouble;
-use ruby_outside::RowText;
+use example_texts::RowText;
 use ruby_value::{Block, NetDest, Ref, Value};
 use std::fmt;
 use trace_print::fault_word;

@@ -2,16 +2,17 @@
 ghost use Rattle.std.specs.Prelude.{IfOk, IfSome};
 ghost use Rattle.controller_rows.specs.Prelude.{GoesOn};
 
-use crate::calls::node::{DRIVER, KEPT_NUMBERS, ME, PARAMETERS, QUEUE, machine, routes, setting};
+use crate::calls::node::{DRIVER, KEPT, KEPT_NUMBERS, ME, PARAMETERS, QUEUE, machine, routes};
 use crate::calls::requests::{load, store};
 use crate::calls::row::{Call, call_of, values};
 use crate::calls::shown::{add_answer, add_arguments};
 use acts::set;
-use built_in_acts::{CallSetting, built_in};
+use built_in_acts::built_in;
 use controller_rows::{is_delivered, is_issued, message, one_field, opened};
 use ctl_face::{Local, NoMemory, Routes};
 use ctl_store::{Draft, Store};
-use ruby_outside::{Got, Library, RowText};
+use example_texts::RowText;
+use ruby_outside::{Got, Library};
 use ruby_value::{MsgNo, Ref, Value};
 use std::alloc::Global;
 
@@ -24,21 +25,8 @@ const CALLS_LIMIT: u64 = 1_048_576;
 const NOW: u64 = 10;
 
 // Makes a call with these arguments in a local, and adds its line.
-fn add_call<L: Local>(
-    rows: &mut RowText,
-    local: &mut L,
-    setting: &CallSetting,
-    call: &Call<'_>,
-    arguments: &[Value],
-) {
-    let answer = built_in(
-        rows.alloc(),
-        local,
-        setting,
-        call.number,
-        call.on,
-        arguments,
-    );
+fn add_call<L: Local>(rows: &mut RowText, local: &mut L, call: &Call<'_>, arguments: &[Value]) {
+    let answer = built_in(rows.alloc(), local, KEPT, call.number, call.on, arguments);
     rows.show("", &call.number);
     rows.show(" ", &call.name);
     add_arguments(rows, arguments);
@@ -46,11 +34,11 @@ fn add_call<L: Local>(
     drop(answer);
 }
 
-fn add_row<L: Local>(rows: &mut RowText, local: &mut L, setting: &CallSetting, line: &str) {
+fn add_row<L: Local>(rows: &mut RowText, local: &mut L, line: &str) {
     let call = call_of(line);
     match values(rows.alloc(), call.arguments) {
         Ok(arguments) => {
-            add_call(rows, local, setting, &call, &arguments);
+            add_call(rows, local, &call, &arguments);
             drop(arguments);
         }
         Err(NoMemory) => rows.lose(),
@@ -71,24 +59,24 @@ fn are_kept<L: Local>(local: &mut L) -> bool {
     true
 }
 
-fn add_group<L: Local>(rows: &mut RowText, local: &mut L, setting: &CallSetting, group: &str) {
+fn add_group<L: Local>(rows: &mut RowText, local: &mut L, group: &str) {
     if !are_kept(local) {
         return rows.lose();
     }
     for line in group.lines() {
         if !line.is_empty() && !line.starts_with('#') {
-            add_row(rows, local, setting, line);
+            add_row(rows, local, line);
         }
     }
 }
 
 // The calls between blank lines, on a draft of their own, which is dropped.
-fn add_groups(rows: &mut RowText, node: &Store, routes: &Routes, setting: &CallSetting, calls: &str)
+fn add_groups(rows: &mut RowText, node: &Store, routes: &Routes, calls: &str)
     requires { GoesOn node.now routes.now NOW }
 {
     for group in calls.split("\n\n") {
         let mut draft = Draft::on(rows.alloc(), node, routes, 42, NOW);
-        add_group(rows, &mut draft, setting, group);
+        add_group(rows, &mut draft, group);
         drop(draft);
     }
 }
@@ -116,13 +104,7 @@ fn add_on(rows: &mut RowText, node: &mut Store, routes: &Routes, calls: &str)
     if !is_begun(rows.alloc(), node, routes) {
         return rows.lose();
     }
-    match setting(rows.alloc()) {
-        Ok(setting) => {
-            add_groups(rows, node, routes, &setting, calls);
-            drop(setting);
-        }
-        Err(NoMemory) => rows.lose(),
-    }
+    add_groups(rows, node, routes, calls);
 }
 
 // The store of the controller as a run begins.

@@ -1,5 +1,5 @@
 // Lists of what is declared.
-use ruby_outside::RowText;
+use example_texts::RowText;
 
 /// Adds a word, a number and a name.
 pub(crate) fn add_named(rows: &mut RowText, word: &str, number: usize, name: &[u8]) {

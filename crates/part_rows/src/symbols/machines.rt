@@ -1,9 +1,9 @@
 // The machines of a protocol.
 use crate::lists::show_all;
 use crate::symbols::list::{Declared, add_list, add_named};
-use ruby_outside::RowText;
+use example_texts::RowText;
 use ruby_symbols::{
-    ActionSymbol, BufferSymbol, FormalSymbol, FunctionSymbol, MachineSymbols, PortSymbol,
+    ActionSymbol, BufferSymbol, FormalSymbol, FunctionSymbol, MachineSymbols, Next, PortSymbol,
     TableSort, TableSymbol, TransitionSymbol,
 };
 use ruby_value::BufferPlace;
@@ -96,6 +96,15 @@ impl Declared for ActionSymbol {
     }
 }
 
+// The state after a transition: one that it names, a star where it is asked for, or none.
+fn add_next(rows: &mut RowText, next: Option<Next>) {
+    match next {
+        None => rows.add(" to None"),
+        Some(Next::To(state)) => rows.debug(" to ", &Some(state)),
+        Some(Next::Asked) => rows.add(" to *"),
+    }
+}
+
 impl Declared for TransitionSymbol {
     fn add(&self, rows: &mut RowText, word: &str, number: usize) {
         rows.show(word, &number);
@@ -103,7 +112,7 @@ impl Declared for TransitionSymbol {
         show_all(rows, " ", self.states.as_slice());
         rows.add(" on");
         show_all(rows, " ", self.events.as_slice());
-        rows.debug(" to ", &self.next);
+        add_next(rows, self.next);
         rows.add(" does");
         show_all(rows, " ", self.actions.as_slice());
         rows.add("\n");
@@ -146,6 +155,7 @@ fn add_calls(rows: &mut RowText, m: &MachineSymbols) {
         ("  getState ", m.get_state),
         (" setState ", m.set_state),
         (" setAccessPermission ", m.set_permission),
+        (" getNextState ", m.get_next_state),
         (" z_stall ", m.stall),
     ];
     add_numbers(rows, &calls);

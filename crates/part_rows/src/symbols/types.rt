@@ -1,7 +1,7 @@
 // The types of a protocol.
 use crate::lists::add_names;
 use crate::symbols::list::{Declared, add_list, add_named};
-use ruby_outside::RowText;
+use example_texts::RowText;
 use ruby_symbols::{EnumerationSymbol, FieldSymbol, StructureSymbol};
 use ruby_value::Value;
 

@@ -1,6 +1,6 @@
 // The lines that are told of a run.
 use crate::tester::play::Run;
-use ruby_outside::RowText;
+use example_texts::RowText;
 use sequencer::{Ask, Finding, Issued};
 
 /// The line of a run, above those of its requests.

@@ -4,9 +4,9 @@ ghost use Rattle.std.specs.Prelude.{◌≤◌, length};
 use crate::tester::lines::{add_finding, add_head};
 use crate::tester::memory::{Script, answer_seat};
 use crate::tester::seats::turn;
+use example_texts::RowText;
 use random_tester::Tester;
 use ruby_base::NoMemory;
-use ruby_outside::RowText;
 use sequencer::{Block, Sequencer};
 
 /// What a run is over: the tester's seed, how many seats there are, how a memory answers, how many checks have to pass and after

@@ -2,9 +2,9 @@
 ghost use Rattle.std.specs.Prelude.{◌≡◌, ◌≤◌, ◌^◌, IfOk, length};
 
 use crate::tester::lines::add_requests;
+use example_texts::RowText;
 use random_tester::Tester;
 use ruby_base::NoMemory;
-use ruby_outside::RowText;
 use sequencer::{Driver, DriverEnd, OwnedSeat, OwnedSeats, Sequencer};
 use std::alloc::Global;
 use std::mem;

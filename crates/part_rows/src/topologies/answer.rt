@@ -1,7 +1,7 @@
 // What is told of a topology, or of its fault.
 use crate::lists::{add_names, show_all};
+use example_texts::RowText;
 use ruby_base::Seq;
-use ruby_outside::RowText;
 use ruby_topology::{Routes, Seat, Sizes, TopoFault, Topology};
 
 // More controllers than these have their paths printed as a sum and a number that tells two tables apart.

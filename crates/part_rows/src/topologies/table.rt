@@ -1,7 +1,8 @@
 // The rows of the table.
 use crate::protocols::plan_in;
 use crate::topologies::answer::add_answer;
-use ruby_outside::{Library, RowText};
+use example_texts::RowText;
+use ruby_outside::Library;
 use ruby_topology::{TopoFault, Topology, plain, read_topology};
 use slicc_plan::Plan;
 use std::alloc::Global;

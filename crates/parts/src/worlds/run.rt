@@ -73,7 +73,7 @@ fn script_of(alloc: Global, bytes: &[u8]) -> Result<Script, NoMemory>
 
 fn write_record<S: Sink>(alloc: Global, sink: &mut S, record: &RunRecord, whole: bool) -> bool {
     let names = &record.topology.names;
-    if whole && !write_entries(alloc, sink, &record.plan, names, record.journal.as_slice()) {
+    if whole && !write_entries(alloc, sink, &record.plan, names, &record.journal) {
         return false;
     }
     let rest = RunText {

@@ -7,8 +7,8 @@ use super::declaration::{add_formals, add_pairs};
 use super::statement::add_block;
 use super::{Spanned, add_each};
 use crate::tree::{
-    Action, Decl, Function, InPort, Item, Literal, Machine, Name, Names, Object, OutPort,
-    Parameter, Span, Transition, Tree,
+    Action, Decl, Function, InPort, Item, Literal, Machine, Name, Names, NextState, Object,
+    OutPort, Parameter, Span, Transition, Tree,
 };
 use ruby_base::{NoMemory, Seq};
 use std::alloc::Global;
@@ -72,11 +72,12 @@ fn add_names(spans: &mut Seq<Span>, n: &Names) -> Result<(), NoMemory>
     }
 }
 
-fn add_next(spans: &mut Seq<Span>, next: &Option<Name>) -> Result<(), NoMemory>
+fn add_next(spans: &mut Seq<Span>, next: &Option<NextState>) -> Result<(), NoMemory>
     ensures { OnOk result (spans.new ≡ spans.old ++ spans_in (next_parts next.now none)) }
 {
     match next {
-        Some(next) => spans.push(next.span),
+        Some(NextState::Named(name)) => spans.push(name.span),
+        Some(NextState::Asked(span)) => spans.push(*span),
         None => Ok(()),
     }
 }

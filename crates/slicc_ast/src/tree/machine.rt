@@ -165,7 +165,7 @@ impl Drop for Action {
 pub struct Transition {
     pub states: Names,
     pub events: Names,
-    pub next: Option<Name>,
+    pub next: Option<NextState>,
     pub pairs: Pairs,
     pub actions: Seq<Name>,
     pub span: Span,
@@ -181,6 +181,22 @@ impl Drop for Transition {
             actions: _,
             span: _,
         } = self;
+    }
+}
+
+/// The next state of a transition, where one is written.
+pub enum NextState {
+    Named(Name),
+    /// `*`: the state that the machine is asked for.
+    Asked(Span),
+}
+
+impl Drop for NextState {
+    fn drop(self) {
+        match self {
+            NextState::Named(_) => {}
+            NextState::Asked(_) => {}
+        }
     }
 }
 

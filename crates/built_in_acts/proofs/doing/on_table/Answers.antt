@@ -9,7 +9,7 @@ pub returns-in_err-lookup-in-Lookup : goal.returns-in_err-lookup-in-Lookup
 returns-in_err-lookup-in-Lookup g c = rw c.in-Lookup.is (told_fails (ap (λ l. done (act.Lookup c.args.on l)) c.line_at-line.ensures.line) _ _ _ _ _ _ c.in_err-lookup-in-Lookup.ensures c.from_residual.ensures.1)
 
 pub returns-in_ok-lookup-in-Lookup : goal.returns-in_ok-lookup-in-Lookup
-returns-in_ok-lookup-in-Lookup g c = rw c.in-Lookup.is (told_as (ap (λ l. done (act.Lookup c.args.on l)) c.line_at-line.ensures.line) _ _ _ _ _ c.in_ok-lookup-in-Lookup.ensures c.referred.ensures)
+returns-in_ok-lookup-in-Lookup g c = rw c.in-Lookup.is (told_as (ap (λ l. done (act.Lookup c.args.on l)) c.line_at-line.ensures.line) _ _ _ _ _ c.in_ok-lookup-in-Lookup.ensures refl)
 
 pub returns-in_err-lookup-in-IsPresent : goal.returns-in_err-lookup-in-IsPresent
 returns-in_err-lookup-in-IsPresent g c = rw c.in-IsPresent.is (told_fails (ap (λ l. done (act.Lookup c.args.on l)) c.line_at-line.ensures.line) _ _ _ _ _ _ c.in_err-lookup-in-IsPresent.ensures c.from_residual-in_err-lookup-in-IsPresent.ensures.1)
@@ -33,7 +33,7 @@ pub returns-in_err-r-in-Allocate : goal.returns-in_err-r-in-Allocate
 returns-in_err-r-in-Allocate g c = rw c.in-Allocate.is (told_fails (ap (λ l. done (act.Allocate c.args.on l)) c.line_at-line.ensures.line) _ _ _ _ _ _ c.in_err-r-in-Allocate.ensures c.from_residual-in_err-r-in-Allocate.ensures.1)
 
 pub returns-in_ok-r-in-Allocate : goal.returns-in_ok-r-in-Allocate
-returns-in_ok-r-in-Allocate g c = rw c.in-Allocate.is (told_as (ap (λ l. done (act.Allocate c.args.on l)) c.line_at-line.ensures.line) _ _ _ _ _ c.in_ok-r-in-Allocate.ensures c.referred-in-Allocate.ensures)
+returns-in_ok-r-in-Allocate g c = rw c.in-Allocate.is (told_as (ap (λ l. done (act.Allocate c.args.on l)) c.line_at-line.ensures.line) _ _ _ _ _ c.in_ok-r-in-Allocate.ensures refl)
 
 pub returns-in_err-allocate-in-AllocateTbe : goal.returns-in_err-allocate-in-AllocateTbe
 returns-in_err-allocate-in-AllocateTbe g c = rw c.in-AllocateTbe.is (silent_fails (ap (λ l. done (act.Allocate c.args.on l)) c.line_at-line.ensures.line) _ _ _ _ _ c.in_err-allocate-in-AllocateTbe.ensures c.from_residual-in_err-allocate-in-AllocateTbe.ensures.1)

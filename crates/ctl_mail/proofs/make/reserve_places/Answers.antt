@@ -5,7 +5,7 @@ use Rattle.ctl_mail.proofs.Places.{loses-none, places-more}
 use Rattle.ctl_mail.proofs.make.reserve_places.Goals as goal
 
 pub reserve_place-requires : goal.reserve_place-requires
-reserve_place-requires c = record { mail = c.loop-i.invariant.mail }
+reserve_place-requires c = record { mail = c.loop-i.invariant.mail; few = omega (arith, c.len-more.ensures, c.args.changes.now.log.ok.0) }
 
 pub loop-i-preserved : goal.loop-i-preserved
 loop-i-preserved c =

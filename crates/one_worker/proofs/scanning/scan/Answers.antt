@@ -4,9 +4,17 @@ use Rattle.ctl_store.specs.Prelude.{view_of}
 use Rattle.body_meaning.specs.declared.frame.RoundEnd.{RoundEnd}
 use Rattle.body_meaning.specs.Prelude.{IsRoundOf}
 use Rattle.protocol_meaning.specs.Prelude.{scan_of}
-use Rattle.one_worker.proofs.HeldScans.{fired-is, full-is, idle-is, stop-is}
+use Rattle.one_worker.proofs.HeldScans.{fired-is, full-is, idle-is, may-scan, stop-is}
 use Rattle.one_worker.proofs.scanning.scan.Goals.{in-Full, in-Idle, in-Stop}
 use Rattle.one_worker.proofs.scanning.scan.Goals as goal
+
+pub round-requires : goal.round-requires
+round-requires g c =
+    let v = c.args.world.now in
+    let before = view_of c.draft-draft.result in
+    let lawful = c.settings_are_lawful.ensures.enough v.trees v.topology v.limits.seed v.limits.cycles v.limits.limit v.opening c.law.ensures.fits c.law.ensures.cycles c.law.ensures.enough in
+    may-scan g.D.Driver.drive g.D.Driver.least v c.args.worker c.args.held.now c.requires.holds lawful before c.draft-draft.ensures c.law.ensures.fits c.law-2.ensures
+    (g.P.Protocol.serves c.args.protocol.now) c.requires.serves
 
 pub returns-in-Fired : goal.returns-in-Fired
 returns-in-Fired g c =

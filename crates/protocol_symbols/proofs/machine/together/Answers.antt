@@ -27,5 +27,6 @@ returns c trees number m numbers sequencer objects bodies rest = λ i. record {
   get_state = (c.function_among-get_state.ensures ∙ ap (λ fs. function_among fs (codes "getState")) (c.deref.ensures ∙ bodies.functions)) i;
   set_state = (c.function_among-set_state.ensures ∙ ap (λ fs. function_among fs (codes "setState")) (c.deref-2.ensures ∙ bodies.functions)) i;
   set_permission = (c.function_among-set_permission.ensures ∙ ap (λ fs. function_among fs (codes "setAccessPermission")) (c.deref-3.ensures ∙ bodies.functions)) i;
-  stall = (c.action_among-stall.ensures ∙ ap (λ xs. action_among xs (codes "z_stall")) (c.deref-4.ensures ∙ bodies.actions)) i;
+  get_next_state = (c.function_among-get_next_state.ensures ∙ ap (λ fs. function_among fs (codes "getNextState")) (c.deref-4.ensures ∙ bodies.functions)) i;
+  stall = (c.action_among-stall.ensures ∙ ap (λ xs. action_among xs (codes "z_stall")) (c.deref-5.ensures ∙ bodies.actions)) i;
 }

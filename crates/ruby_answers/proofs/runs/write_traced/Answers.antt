@@ -1,4 +1,4 @@
-use Rattle.std.proofs.Common.{ap, flat_map, ◌∙◌}
+use Rattle.std.proofs.Common.{flat_map}
 use Rattle.slicc_plan.specs.Prelude.{symbols_of}
 use Rattle.trace_print.specs.Prelude.{entry_lines}
 use Rattle.ruby_answers.specs.Prelude.{traced_lines}
@@ -15,5 +15,5 @@ pub returns : goal.returns
 returns g c =
     let r = c.args.run.now in
     let lines = flat_map (entry_lines (symbols_of r.plan) r.topology.names) r.journal in
-    same_lines g.S.Sink.writes c.args.sink.now c.write_journal.new.sink c.write_journal.result (flat_map (entry_lines (symbols_of r.plan) r.topology.names) c.as_slice.result.now) (traced_lines r)
-    (ap (flat_map (entry_lines (symbols_of r.plan) r.topology.names)) c.as_slice.ensures ∙ traced r.options.trace lines c.if-not-run.false) c.write_journal.ensures
+    same_lines g.S.Sink.writes c.args.sink.now c.write_journal.new.sink c.write_journal.result lines (traced_lines r)
+    (traced r.options.trace lines c.if-not-run.false) c.write_journal.ensures

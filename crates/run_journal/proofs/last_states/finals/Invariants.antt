@@ -6,6 +6,6 @@ use Rattle.run_journal.proofs.LastStates.{place_cmp}
 use Rattle.run_journal.proofs.last_states.finals.Given as goal
 
 -- the states so far and the rest of the journal give the last states
-abbrev pub invariant-loop-entry : goal.invariant-loop-entry
-invariant-loop-entry l =
-    (c a : ℕ) → last_or (get place_cmp l.states (c, a)) (filter_map (next_state c a) (drop l.entry-index l.entry-items)) ≡ last_state l.entry-items c a
+abbrev pub invariant-loop-place : goal.invariant-loop-place
+invariant-loop-place l =
+    (c a : ℕ) → last_or (get place_cmp l.states (c, a)) (filter_map (next_state c a) (drop l.place l.j)) ≡ last_state l.j c a

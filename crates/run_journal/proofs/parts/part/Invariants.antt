@@ -3,5 +3,5 @@ use Rattle.run_journal.specs.Prelude.{part_of}
 use Rattle.run_journal.proofs.parts.part.Given as goal
 
 -- what is there and what the rest of the journal gives are the whole part
-abbrev pub invariant-loop-entry : goal.invariant-loop-entry
-invariant-loop-entry l = l.entries ++ part_of l.controller (drop l.entry-index l.entry-items) ≡ part_of l.controller l.entry-items
+abbrev pub invariant-loop-place : goal.invariant-loop-place
+invariant-loop-place l = l.entries ++ part_of l.controller (drop l.place l.j) ≡ part_of l.controller l.j

@@ -1,6 +1,7 @@
 use Rattle.std.proofs.lemmas.Result.{err_from_is_err_and}
 use Rattle.body_meaning.specs.Prelude.{reading}
-use Rattle.scan_walk.proofs.Stalls.{row_fires, row_stops, short_waits, stalled_waits}
+use Rattle.acts.proofs.Walk.{then_does, then_stops}
+use Rattle.scan_walk.proofs.Stalls.{row_goes_on, row_stops, short_waits, stalled_waits}
 use Rattle.scan_walk.proofs.transition.row_tried.Goals as goal
 
 pub returns-in_err-short : goal.returns-in_err-short
@@ -20,8 +21,16 @@ returns-then-stalls g c =
     (rw (c.deref.ensures, c.deref-2.ensures) at c.in_ok-short.ensures) c.waiting-then-stalls.result c.is_stall_among-stalls.result
     (rw c.deref-3.ensures at c.is_stall_among-stalls.ensures) c.if-short.false c.if-stalls.true c.waiting-then-stalls.ensures
 
+pub returns-in_err-next : goal.returns-in_err-next
+returns-in_err-next g c =
+    let p = err_from_is_err_and c.from_residual-in_err-next.result c.from_residual-in_err-next.ensures.1 in
+    rw (p.1, p.2)
+    (row_goes_on (reading c.args.s) c.args.t c.args.state c.args.row.now _ _ _ c.in_ok-short.short
+    (rw (c.deref.ensures, c.deref-2.ensures) at c.in_ok-short.ensures) _ c.is_stall_among-stalls.result
+    (rw c.deref-3.ensures at c.is_stall_among-stalls.ensures) c.if-short.false c.if-stalls.false (then_stops _ _ _ _ _ _ _ _ c.in_err-next.ensures))
+
 pub returns : goal.returns
 returns g c =
-    row_fires (reading c.args.s) c.args.t c.args.state c.args.row.now _ _ _ c.in_ok-short.short
+    row_goes_on (reading c.args.s) c.args.t c.args.state c.args.row.now _ _ _ c.in_ok-short.short
     (rw (c.deref.ensures, c.deref-2.ensures) at c.in_ok-short.ensures) c.fired.result c.is_stall_among-stalls.result
-    (rw c.deref-3.ensures at c.is_stall_among-stalls.ensures) c.if-short.false c.if-stalls.false c.unwrap_or.result c.unwrap_or.ensures c.fired.ensures
+    (rw c.deref-3.ensures at c.is_stall_among-stalls.ensures) c.if-short.false c.if-stalls.false (then_does _ _ _ _ _ _ _ _ _ c.in_ok-next.ensures c.fired.ensures)

@@ -1,12 +1,17 @@
-use Rattle.std.proofs.Common.{List, refl, subst}
-use Rattle.world_events.specs.Prelude.{AreCountsOf, mail_in}
-use Rattle.world_events.proofs.Counted.{account-held}
+use Rattle.std.proofs.Common.{List, arith, subst, sym}
+use Rattle.world_events.specs.Prelude.{AreCountsOf, IsFew, mail_in}
+use Rattle.world_events.proofs.Counted.{account-held, few-of}
 use Rattle.world_state.specs.declared.place.Place.{Place}
 use Rattle.world_events.proofs.accounting.account.Goals as goal
+
+pub counts_of-counts-requires : goal.counts_of-counts-requires
+counts_of-counts-requires g c =
+    subst (λ (places : List Place). IsFew (mail_in places)) (sym c.deref.ensures.value)
+    (few-of (mail_in c.args.st.now.places.items) _ c.requires.few (omega (arith, c.sent-all.ensures.value, c.sent-all.ensures.few)))
 
 pub returns : goal.returns
 returns g c =
     λ p drive s held.
-    account-held p drive s held c.args.st.now.places.items c.args.st.now.book.journal c.in-Some.sent c.in-Some-consumed.consumed c.in_ok-counts.counts
-    c.requires (c.in-Some.ensures c.in-Some.sent refl) (c.in-Some-consumed.ensures c.in-Some-consumed.consumed refl)
-    (subst (λ (places : List Place). AreCountsOf (mail_in places) c.in_ok-counts.counts) c.deref.ensures.value c.in_ok-counts.ensures)
+    account-held p drive s held c.args.st.now.places.items c.args.st.now.book.journal c.sent-all.result c.consumed-gone.result c.counts_of-counts.result
+    c.requires.nobody c.sent-all.ensures.value c.consumed-gone.ensures.value
+    (subst (λ (places : List Place). AreCountsOf (mail_in places) c.counts_of-counts.result) c.deref.ensures.value c.counts_of-counts.ensures)

@@ -3,14 +3,18 @@ use Rattle.std.proofs.lemmas.List.{take_all}
 use Rattle.protocol_runs.specs.Prelude.{Mailed}
 use Rattle.world_state.specs.declared.place.Place.{Place}
 use Rattle.world_events.specs.Prelude.{AreCountsOf, mail_in}
-use Rattle.world_events.proofs.Counted.{mail-more}
+use Rattle.world_events.proofs.Counted.{fits-with, mail-more}
 use Rattle.world_events.proofs.accounting.counts_of.Goals as goal
+
+pub with_place-counts-requires : goal.with_place-counts-requires
+with_place-counts-requires c =
+    fits-with c.args.places.now c.loop-place.place-index c.place-item.result c.loop-place.counts (omega arith) c.place-item.is c.loop-place.invariant c.requires
 
 pub loop-place-preserved : goal.loop-place-preserved
 loop-place-preserved c =
-    subst (λ (ms : List Mailed). AreCountsOf ms c.in_ok-counts.counts)
+    subst (λ (ms : List Mailed). AreCountsOf ms c.with_place-counts.result)
     (mail-more c.args.places.now c.loop-place.place-index c.place-item.result (omega arith) c.place-item.is)
-    (c.in_ok-counts.ensures (mail_in (take c.loop-place.place-index c.args.places.now)) c.loop-place.invariant)
+    (c.with_place-counts.ensures (mail_in (take c.loop-place.place-index c.args.places.now)) c.loop-place.invariant)
 
 pub returns : goal.returns
 returns c =

@@ -1,23 +1,28 @@
-use Rattle.std.proofs.Common.{◌+◌, ◌++◌, ◌∙◌, ℕ, List, ap, subst, sym}
+use Rattle.std.proofs.Common.{◌++◌, List, map, subst, sym}
 use Rattle.std.specs.Prelude.{count_by}
 use Rattle.ctl_face.specs.Prelude.{InboxMessage}
-use Rattle.ctl_mail.specs.Prelude.{is_queued, is_recycled}
+use Rattle.ctl_mail.specs.Prelude.{is_queued, is_recycled, is_stalled}
 use Rattle.ctl_store.specs.Prelude.{ctl_of}
+use Rattle.protocol_runs.specs.Prelude.{mailed}
 use Rattle.world_state.specs.declared.place.Keeper.{Keeper}
-use Rattle.world_events.specs.Prelude.{AreCountsOf, mail_by}
+use Rattle.world_events.specs.Prelude.{AreCountsOf, FitsWith, mail_by}
 use Rattle.world_events.specs.declared.accounting.Counts.{Counts}
-use Rattle.world_events.proofs.Counted.{counts-more, counts-still}
+use Rattle.world_events.proofs.Counted.{census-fits, counts-more, counts-still, told-more, told-whole}
 use Rattle.world_events.proofs.accounting.with_place.Goals as goal
 
-pub returns-in_ok-recycled-in-World : goal.returns-in_ok-recycled-in-World
-returns-in_ok-recycled-in-World c =
+pub returns-in-World : goal.returns-in-World
+returns-in-World c =
     let inbox : List InboxMessage = (ctl_of c.in-World.kept.store).mail.inbox in
-    let after : Counts = record { queued = c.in_ok-queued-in-World.queued; stalled = c.in_ok-stalled-in-World.stalled; recycled = c.in_ok-recycled-in-World.recycled } in
+    let before : Counts = c.args.counts in
+    let after : Counts = record { queued = c.saturating_add-queued.result; stalled = c.saturating_add-stalled.result; recycled = c.saturating_add-recycled.result } in
+    let fits : FitsWith before (map mailed inbox) = subst (λ (k : Keeper). FitsWith before (mail_by k)) c.in-World.is c.requires in
+    let few = census-fits before inbox fits in
     λ mail are.
     subst (λ (k : Keeper). AreCountsOf (mail ++ mail_by k) after) (sym c.in-World.is)
-    (counts-more mail inbox c.args.counts after are (c.in_ok-queued-in-World.ensures.exact (count_by is_queued inbox) c.census-told.ensures.queued)
-    (c.in_ok-stalled-in-World.ensures.sum ∙ ap (λ (n : ℕ). c.args.counts.stalled + n) c.census-told.ensures.stalled)
-    (c.in_ok-recycled-in-World.ensures.exact (count_by is_recycled inbox) c.census-told.ensures.recycled))
+    (counts-more mail inbox before after are
+    (told-more before.queued c.census-told.result.0 after.queued (count_by is_queued inbox) c.saturating_add-queued.ensures c.census-told.ensures.queued few.0)
+    (told-whole before.stalled c.census-told.result.1 after.stalled (count_by is_stalled inbox) c.saturating_add-stalled.ensures c.census-told.ensures.stalled few.1)
+    (told-more before.recycled c.census-told.result.2 after.recycled (count_by is_recycled inbox) c.saturating_add-recycled.ensures c.census-told.ensures.recycled few.2))
 
 pub returns-in-Worker : goal.returns-in-Worker
 returns-in-Worker c =

@@ -105,4 +105,5 @@ returns-in-Err-clause-err g c =
       history = same.history;
       journal = same.journal;
       room = same.room;
+      entry_room = same.entry_room;
     }

@@ -1,7 +1,7 @@
-use Rattle.std.proofs.Common.{◌≡◌, ◌≤◌, ◌∷◌, All, List, length, sym, subst, ap, ◌∙◌, arith}
+use Rattle.std.proofs.Common.{◌≡◌, ◌≤◌, ◌∷◌, List, length, sym, subst, ap, ◌∙◌, arith}
 use Rattle.ctl_face.specs.Prelude.{Mail}
 use Rattle.ctl_mail.specs.declared.act.MailAct.{MailAct}
-use Rattle.ctl_mail.specs.Prelude.{mail_of, AreMakeable, after_acts, HasPlaces}
+use Rattle.ctl_mail.specs.Prelude.{mail_of, AreMakeable, after_acts}
 use Rattle.ctl_mail.proofs.Acts.{after-first, after-none, none-there}
 use Rattle.ctl_mail.proofs.Edits.{past-end}
 use Rattle.ctl_mail.proofs.Rooms.{room-after, room-places, room-to-wake, room-waits}

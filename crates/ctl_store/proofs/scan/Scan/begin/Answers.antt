@@ -3,12 +3,12 @@ use Rattle.ctl_store.proofs.scan.Scan.begin.Goals as goal
 
 pub invariant_of-result : goal.invariant_of-result
 invariant_of-result c =
-    begun_scan c.args.parts.now c.args.routes.now c.args.seed c.args.now c.changes.result c.begin.result c.new.result
+    begun_scan c.args.parts.now c.args.routes.now c.args.seed c.args.now c.begin.new.changes c.begin-2.new.self c.new.result
     c.requires.kept c.requires.routes c.requires.cycle c.requires.fits
-    (begun_view c.args.parts.now c.args.routes.now c.args.seed c.args.now c.changes.result c.begin.result c.new.result c.changes.ensures.tables c.changes.ensures.states c.begin.ensures.none c.new.ensures.unchanged)
-    c.changes.ensures.replays c.begin.ensures.changes c.new.ensures.none c.new.ensures.fit
+    (begun_view c.args.parts.now c.args.routes.now c.args.seed c.args.now c.begin.new.changes c.begin-2.new.self c.new.result c.begin.ensures.tables c.begin.ensures.states c.begin-2.ensures.none c.new.ensures.unchanged)
+    c.begin.ensures.replays c.begin-2.ensures.changes c.new.ensures.none c.new.ensures.fit
 
 pub returns : goal.returns
 returns c =
-    begun_view c.args.parts.now c.args.routes.now c.args.seed c.args.now c.changes.result c.begin.result c.new.result
-    c.changes.ensures.tables c.changes.ensures.states c.begin.ensures.none c.new.ensures.unchanged
+    begun_view c.args.parts.now c.args.routes.now c.args.seed c.args.now c.begin.new.changes c.begin-2.new.self c.new.result
+    c.begin.ensures.tables c.begin.ensures.states c.begin-2.ensures.none c.new.ensures.unchanged

@@ -1,9 +1,0 @@
-use Rattle.ctl_tables.specs.Prelude.{log_of, tables_of}
-use Rattle.ctl_tables.proofs.Replaying.{nothing_made, nothing_replays}
-use Rattle.ctl_tables.proofs.held.Tables.changes.Goals as goal
-
-pub returns-clause-replays : goal.returns-clause-replays
-returns-clause-replays c = nothing_replays (log_of c.new.result) (tables_of c.args.self.now) c.new.ensures.tables
-
-pub returns-clause-tables : goal.returns-clause-tables
-returns-clause-tables c = nothing_made (log_of c.new.result) (tables_of c.args.self.now) c.new.ensures.tables
