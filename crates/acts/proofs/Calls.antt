@@ -11,8 +11,8 @@ use Rattle.ruby_value.specs.declared.value.Block.{Block}
 use Rattle.ruby_value.specs.declared.value.Ref.{Ref}
 use Rattle.ruby_value.specs.declared.value.Value.{Value}
 use Rattle.ctl_face.specs.declared.trouble.Trouble.{Trouble}
-use Rattle.ctl_face.specs.Prelude.{again, allocate, avail, probe, block_after_write, read_back, write_back, deallocate, Does, DoesWith, Reads, answered, enqueue, free, field_behind, front_now, get, message_at, LocalView, lookup, reference_to, pop, ready, required_front, recycle, set, stall, set_state, state, touch, wake, wake_all}
-use Rattle.acts.specs.Prelude.{Now, Me, Get, Set, Lookup, Avail, Probe, Allocate, Deallocate, Touch, Free, Ready, Front, Pop, Stall, Wake, WakeAll, Recycle, Send, ReadBack, WriteBack, State, SetState, Again, act, DoesAs, itself, lent, message_there, no_message, serves}
+use Rattle.ctl_face.specs.Prelude.{again, allocate, avail, probe, block_after_write, read_back, write_back, deallocate, Does, DoesWith, Reads, answered, enqueue, free, field_behind, front_now, get, message_at, LocalView, lookup, reference_to, pop, ready, required_front, recycle, set, slots, stall, set_state, state, touch, wake, wake_all}
+use Rattle.acts.specs.Prelude.{Now, Me, Get, Set, Lookup, Avail, Probe, Allocate, Deallocate, Touch, Free, Ready, Front, Pop, Stall, Wake, WakeAll, Recycle, Send, Slots, ReadBack, WriteBack, State, SetState, Again, act, DoesAs, itself, lent, message_there, no_message, serves}
 use Rattle.acts.proofs.Served.{answered_reads, changes_does, faults_does, means_does, not_served_does, reads_does}
 
 there_is : (o p : Option Message) → true ≡ is_some o → p ≡ o → ok_or o fault.Front ≡ Ok (unwrap_or p no_message)
@@ -93,6 +93,9 @@ module _ (v : LocalView) where
   pub send_does : (buffer : ℕ) (latency : ℤ) (fields : List Value) (result : Result (Unit {0}) Trouble) (w : LocalView) → serves v.machine (Send buffer latency fields) ≡ true → Does (enqueue v buffer latency fields) result v w → DoesAs itself (act (Send buffer latency fields)) result v w
   send_does buffer latency fields result w s does = changes_does (Send buffer latency fields) v s (enqueue v buffer latency fields) tt result w refl does
 
+  pub slots_does : (buffer : ℕ) (x : Option ℕ) → serves v.machine (Slots buffer) ≡ true → x ≡ slots v buffer → DoesAs itself (act (Slots buffer)) (Ok x) v v
+  slots_does buffer x s is = reads_does (Slots buffer) v s (Ok (slots v buffer)) (Ok x) refl (ap (λ (y : Option ℕ). Ok y) (sym is))
+
   pub read_back_does : (line : ℕ) (block : Block) (result : Result (Unit {0}) Trouble) (w : LocalView) → serves v.machine (ReadBack line block) ≡ true → Does (read_back v line block) result v w → DoesAs itself (act (ReadBack line block)) result v w
   read_back_does line block result w s does = changes_does (ReadBack line block) v s (read_back v line block) tt result w refl does
 
@@ -108,4 +111,4 @@ module _ (v : LocalView) where
   pub again_does : (result : Result (Unit {0}) Trouble) (w : LocalView) → Does (Ok (again v)) result v w → DoesAs itself (act Again) result v w
   again_does result w does = changes_does Again v refl (Ok (again v)) tt result w refl does
 
-pub ruleset calls_of_acts = (not_served_does, now_does, me_does, get_does, field_does, no_field_does, set_does, lookup_does, avail_does, probe_does, allocate_does, deallocate_does, touch_does, free_does, ready_does, front_does, front_at_does, no_front_does, pop_does, stall_does, wake_does, wake_all_does, recycle_does, send_does, read_back_does, write_back_does, state_does, set_state_does, again_does)
+pub ruleset calls_of_acts = (not_served_does, now_does, me_does, get_does, field_does, no_field_does, set_does, lookup_does, avail_does, probe_does, allocate_does, deallocate_does, touch_does, free_does, ready_does, front_does, front_at_does, no_front_does, pop_does, stall_does, wake_does, wake_all_does, recycle_does, send_does, slots_does, read_back_does, write_back_does, state_does, set_state_does, again_does)

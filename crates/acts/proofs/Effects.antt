@@ -1,5 +1,5 @@
 -- What any act comes to: it refuses, with a fault that isn't `invalid`, or it leaves a local of the same scan, with its marks kept.
-use Rattle.std.proofs.Common.{◌≡◌, ◌<◌, ◌+◌, ◌++◌, ℕ, ℤ, Bool, true, false, cond, not, List, [], ◌∷◌, map, Option, None, Some, Result, Ok, Err, nat_abs, nat_le, nat_lt, refl, sym, ◌∙◌, arith, slice_get, is_some, length}
+use Rattle.std.proofs.Common.{◌≡◌, ◌<◌, ◌+◌, ◌++◌, ◌==◌, ◌&&◌, ℕ, ℤ, Bool, true, false, cond, not, List, [], ◌∷◌, map, Option, None, Some, Result, Ok, Err, nat_abs, nat_le, nat_lt, refl, sym, ◌∙◌, arith, slice_get, is_some, length}
 use Rattle.std.proofs.lemmas.Bool.{cond_both}
 use Rattle.std.specs.FinMap as finite
 use Rattle.std.specs.List.{fold, list_all}
@@ -16,12 +16,13 @@ use Rattle.ruby_value.specs.declared.value.Block.{Block}
 use Rattle.ruby_value.specs.declared.value.Ref.{Ref}
 use Rattle.ruby_value.specs.declared.value.Value.{Value}
 use Rattle.ruby_value.specs.Prelude.{with_mark, available, fields_of, made_recent, same_number, set_of, without_line, with_set, Requests}
-use Rattle.ctl_face.specs.Prelude.{Acts, again, allocate, with_line, after_front, at_front, after_callback, called_back, read_back, write_back, InboxMessage, Mail, deallocate, without_line_in, after_sending, enqueue, fields_in, is_latency, Actor, LocalView, SameScan, initial_fields, mail_without, pop, front_now, mail_with_recycled, message_arriving_again, recycle, receiving_buffer, Sending, copy_limit, local_copy, no_copies, receivers_of, send, sending_from, sending_on, with_network_copy, set, table_with_field, mail_with_waiting, message_waiting_under, stall, set_state, Table, CacheTable, DirectoryTable, TbeTable, ParameterTable, after_change, change_if_there, changed_table, table_at, touch, used_line, message_waiting_no_longer, with_woken}
+use Rattle.ctl_face.specs.declared.parcel.Credit.{Credit}
+use Rattle.ctl_face.specs.Prelude.{acts_after_dequeue, credit_for, had_slot, mail_after_dequeue, mail_if_credited, Acts, again, allocate, with_line, after_front, at_front, after_callback, called_back, read_back, write_back, InboxMessage, Mail, deallocate, without_line_in, after_sending, enqueue, fields_in, is_latency, Actor, LocalView, SameScan, initial_fields, mail_without, pop, front_now, mail_with_recycled, message_arriving_again, recycle, receiving_buffer, Sending, copy_limit, local_copy, no_copies, receivers_of, send, sending_from, sending_on, with_network_copy, set, table_with_field, mail_with_waiting, message_waiting_under, stall, set_state, Table, CacheTable, DirectoryTable, TbeTable, ParameterTable, after_change, change_if_there, changed_table, table_at, touch, used_line, message_waiting_no_longer, with_woken}
 use Rattle.ruby_value.specs.declared.asked.BackFault.{BackFault}
 use Rattle.ruby_value.specs.Callback as callback
 use Rattle.ctl_face.proofs.Arrivals.{positive}
-use Rattle.acts.specs.Prelude.{AreMarked, CountsStay, IsMarked, KeepsMarks, MarksStay}
-use Rattle.acts.proofs.Marks.{has_itself, marked_map, marked_put, marked_with, marked_without, marks_kept, marks_with, sent_is}
+use Rattle.acts.specs.Prelude.{AreCreditsMarked, AreMarked, CountsStay, IsMarked, KeepsMarks, MarksStay}
+use Rattle.acts.proofs.Marks.{credits_marked, credits_put, has_itself, has_more, marked_map, marked_put, marked_with, marked_without, marks_kept, marks_with, sent_is}
 
 -- a fault that isn't `invalid`, if it is one
 abbrev pub NotInvalid : {X : Type 0} → Result X Fault → Type 0
@@ -46,7 +47,7 @@ module _ (v : LocalView) where
     scan = record { machine = refl; actor = refl; now = refl; start = refl };
     counts = record { fired = refl; stopped = refl };
     marks = marks_kept v.ctl.mail.marks v.now;
-    marked = λ is. record { arrivals = is.arrivals; next = is.next };
+    marked = λ is. record { arrivals = is.arrivals; credits = is.credits; next = is.next };
   }
 
   mails : (mail : Mail) (acts : Acts) → MarksStay v (record v { ctl = record v.ctl { mail = mail }; acts = acts })
@@ -132,11 +133,28 @@ module _ (v : LocalView) where
   front_effect told change None does = λ is. cc is
   front_effect told change (Some m) does = does m
 
+  -- with a credit that arrives later, or without it
+  credited : (b : Bool) (mail : Mail) (c : Credit) (acts : Acts) → v.now < c.arrival → Changes v (record v { ctl = record v.ctl { mail = mail }; acts = acts })
+      → Changes v (record v { ctl = record v.ctl { mail = mail_if_credited b mail c }; acts = acts })
+  credited false mail c acts later is = is
+  credited true mail c acts later is =
+      mails _ acts (marks_with v.ctl.mail.marks mail.marks v.now c.arrival later is.marks)
+      (λ before.
+      let here = is.marked before in
+      record {
+        arrivals = marked_with v.now c.arrival mail.marks mail.inbox here.arrivals;
+        credits = credits_put v.now mail.marks mail.credits c here.credits;
+        next = λ waits. has_more mail.marks c.arrival (v.now + 1) (here.next waits);
+      })
+
   pub pop_effect : (buffer : ℕ) → Effect v (pop v buffer)
   pop_effect buffer =
-      front_effect _ (mail_without v.ctl.mail) (front_now v buffer)
-      (λ m. mails (mail_without v.ctl.mail m) _ (marks_kept v.ctl.mail.marks v.now)
-      (λ is. record { arrivals = marked_without v.now v.ctl.mail.marks m.number v.ctl.mail.inbox is.arrivals; next = is.next }))
+      front_effect (acts_after_dequeue v.actor buffer v.now v.acts) (λ (m : Message). mail_after_dequeue v.actor buffer v.now m.number (mail_without v.ctl.mail m)) (front_now v buffer)
+      (λ m.
+      let later : v.now < v.now + 1 = omega arith in
+      credited (had_slot v.actor buffer m.number && m.number.sender == v.actor.me) (mail_without v.ctl.mail m) (credit_for v.actor buffer v.now m.number).message (acts_after_dequeue v.actor buffer v.now v.acts m.number) later
+      (mails (mail_without v.ctl.mail m) _ (marks_kept v.ctl.mail.marks v.now)
+      (λ is. record { arrivals = marked_without v.now v.ctl.mail.marks m.number v.ctl.mail.inbox is.arrivals; credits = is.credits; next = is.next })))
 
   -- some messages change, but for their arrivals
   kept_arrivals : (test : InboxMessage → Bool) (change : InboxMessage → InboxMessage) (acts : Acts) → acts.again ≡ v.acts.again
@@ -146,6 +164,7 @@ module _ (v : LocalView) where
       mails _ acts (marks_kept v.ctl.mail.marks v.now)
       (λ is. record {
         arrivals = marked_map v.now v.ctl.mail.marks test change (λ o here. rw (keeps o) here) v.ctl.mail.inbox is.arrivals;
+        credits = is.credits;
         next = λ waits. is.next (sym same ∙ waits);
       })
 
@@ -164,6 +183,7 @@ module _ (v : LocalView) where
       mails (mail_with_recycled v.ctl.mail arrival m) (told m.number) (marks_with v.ctl.mail.marks v.ctl.mail.marks v.now arrival later (marks_kept v.ctl.mail.marks v.now))
       (λ is. record {
         arrivals = marked_map v.now marks (λ (o : InboxMessage). same_number o.message.number m.number) (message_arriving_again arrival) (λ o here _. has_itself v.ctl.mail.marks arrival) v.ctl.mail.inbox (marked_with v.now arrival v.ctl.mail.marks v.ctl.mail.inbox is.arrivals);
+        credits = credits_marked v.now arrival v.ctl.mail.marks v.ctl.mail.credits is.credits;
         next = λ waits. (marks_with v.ctl.mail.marks v.ctl.mail.marks v.now arrival later (marks_kept v.ctl.mail.marks v.now)).stay (v.now + 1) (is.next (sym (same m.number) ∙ waits));
       })
 
@@ -181,7 +201,7 @@ module _ (v : LocalView) where
   again_effect =
       let later : v.now < v.now + 1 = omega arith in
       mails _ (record v.acts { again = true }) (marks_with v.ctl.mail.marks v.ctl.mail.marks v.now (v.now + 1) later (marks_kept v.ctl.mail.marks v.now))
-      (λ is. record { arrivals = marked_with v.now (v.now + 1) v.ctl.mail.marks v.ctl.mail.inbox is.arrivals; next = λ _. has_itself v.ctl.mail.marks (v.now + 1) })
+      (λ is. record { arrivals = marked_with v.now (v.now + 1) v.ctl.mail.marks v.ctl.mail.inbox is.arrivals; credits = credits_marked v.now (v.now + 1) v.ctl.mail.marks v.ctl.mail.credits is.credits; next = λ _. has_itself v.ctl.mail.marks (v.now + 1) })
 
 -- a send refuses with faults of its own
 sends_on : (p : BufferPlace) (ordered : Bool) (actor : Actor) (mail : Mail) (buffer latency : ℕ) (fields : List Value) (now : ℕ) → NotInvalid (sending_on p ordered actor mail buffer latency fields now)
@@ -210,14 +230,15 @@ send_effect v buffer latency fields = go (send v.machine v.actor v.ctl.mail buff
     go (Err e) sent valid = valid
     go (Ok s) sent valid =
         let kept : KeepsMarks v.ctl.mail.marks v.now s.mail.marks =
-        sent_is v.now (λ inbox marks. KeepsMarks v.ctl.mail.marks v.now marks) (λ inbox marks m later is. marks_with v.ctl.mail.marks marks v.now m.arrival later is)
+        sent_is v.now (λ inbox marks credits. KeepsMarks v.ctl.mail.marks v.now marks) (λ inbox marks credits m later is. marks_with v.ctl.mail.marks marks v.now m.arrival later is)
         v.machine v.actor v.ctl.mail buffer latency fields s sent (marks_kept v.ctl.mail.marks v.now) in
         record {
           scan = record { machine = refl; actor = refl; now = refl; start = refl };
           counts = record { fired = refl; stopped = refl };
           marks = kept;
           marked = λ is. record {
-            arrivals = sent_is v.now (λ inbox marks. AreMarked v.now marks inbox) (λ inbox marks m later here. marked_put v.now marks inbox m here) v.machine v.actor v.ctl.mail buffer latency fields s sent is.arrivals;
+            arrivals = sent_is v.now (λ inbox marks credits. AreMarked v.now marks inbox) (λ inbox marks credits m later here. marked_put v.now marks inbox m here) v.machine v.actor v.ctl.mail buffer latency fields s sent is.arrivals;
+            credits = sent_is v.now (λ inbox marks credits. AreCreditsMarked v.now marks credits) (λ inbox marks credits m later here. credits_marked v.now m.arrival marks credits here) v.machine v.actor v.ctl.mail buffer latency fields s sent is.credits;
             next = λ waits. kept.stay (v.now + 1) (is.next waits);
           };
         }

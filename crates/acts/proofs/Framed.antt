@@ -1,5 +1,5 @@
 -- What comes later is nothing to each act, and so to each body.
-use Rattle.std.proofs.Common.{◌≡◌, ◌+◌, ◌∷◌, ℕ, Bool, true, false, cond, List, [], map, Option, Result, Ok, Err, All, refl, sym, subst, ap, ◌∙◌, arith, is_some, length}
+use Rattle.std.proofs.Common.{◌≡◌, ◌<◌, ◌+◌, ◌∷◌, ℕ, Bool, true, false, cond, List, [], map, Option, Result, Ok, Err, All, refl, sym, subst, ap, ◌∙◌, arith, is_some, length}
 use Rattle.std.specs.List.{AllPairs}
 use Rattle.std.specs.Prelude.{count_by}
 use Rattle.std.proofs.lemmas.List.Elements.{All-cons, All-head, All-map, All-nil, All-tail, All-weaker}
@@ -12,13 +12,14 @@ use Rattle.ruby_value.specs.declared.message.Message.{Message}
 use Rattle.ruby_value.specs.declared.message.MsgNo.{MsgNo}
 use Rattle.ruby_value.specs.Prelude.{number_before, same_number, with_mark, numbers_from}
 use Rattle.ruby_value.specs.declared.message.Sent.{Sent}
-use Rattle.ctl_face.specs.Prelude.{allocate, with_line, probe, block_after_write, read_back, write_back, Ctl, InboxMessage, deallocate, without_line_in, enqueue, fields_in, IsLawful, NumbersAscend, get, Actor, LocalView, SameScan, reference_to, incoming_message, initial_fields, pop, required_front, recycle, set, table_with_field, stall, touch, used_line, is_under}
+use Rattle.ctl_face.specs.declared.parcel.Credit.{Credit}
+use Rattle.ctl_face.specs.Prelude.{with_credit, allocate, with_line, probe, block_after_write, read_back, write_back, Ctl, InboxMessage, deallocate, without_line_in, enqueue, fields_in, IsLawful, NumbersAscend, get, Actor, LocalView, SameScan, reference_to, incoming_message, initial_fields, pop, required_front, recycle, set, table_with_field, stall, touch, used_line, is_under}
 use Rattle.ctl_face.specs.Inbox.{with_message}
 use Rattle.ctl_face.proofs.Inboxes.{ascend-with}
-use Rattle.acts.specs.Prelude.{Act, Now, Me, Get, Set, Lookup, Avail, Probe, Allocate, Deallocate, Touch, Free, Ready, Front, Pop, Stall, Wake, WakeAll, Recycle, Send, ReadBack, WriteBack, State, SetState, Again, Acting, run, Agrees, HoldsAfter, Done, changes, does_served, reads, serves, Added, AreNew, IsNew, after_adding, with_added}
+use Rattle.acts.specs.Prelude.{Act, Now, Me, Get, Set, Lookup, Avail, Probe, Allocate, Deallocate, Touch, Free, Ready, Front, Pop, Stall, Wake, WakeAll, Recycle, Send, Slots, ReadBack, WriteBack, State, SetState, Again, Acting, run, Agrees, HoldsAfter, Done, changes, does_served, reads, serves, Added, AreNew, IsNew, after_adding, with_added}
 use Rattle.acts.proofs.Laws.{agrees_where_served, all_agrees}
-use Rattle.acts.proofs.Frames.{Passes, after_done, again_moved, changes_moved, enqueue_moved, front_moved, moved, pop_moved, read_moved, reads_moved, recycle_moved, stall_moved, table_moved, wake_moved, write_moved}
-use Rattle.acts.proofs.Later.{mark_passes, message_passes, not_same, same_is_not}
+use Rattle.acts.proofs.Frames.{Passes, after_done, again_moved, changes_moved, enqueue_moved, front_moved, moved, pop_moved, read_moved, reads_moved, recycle_moved, slots_moved, stall_moved, table_moved, wake_moved, write_moved}
+use Rattle.acts.proofs.Later.{credit_passes, mark_passes, message_passes, not_same, same_is_not}
 use Rattle.acts.proofs.Lawful.{lawful_act}
 use Rattle.acts.proofs.Mail.{all_from_map, all_of_sender}
 use Rattle.acts.proofs.Scans.{DoneEffect, act_effect}
@@ -26,67 +27,82 @@ use Rattle.acts.proofs.Scans.{DoneEffect, act_effect}
 abbrev needed : Option Message → Result Message Fault
 needed o = ok_or o NoFront
 
-module _ (f : List InboxMessage → List InboxMessage) (g : List ℕ → List ℕ) (v : LocalView) (passes : Passes v.actor.me v.now f g v.ctl.mail.inbox) where
-  act_moved : (a : Act) → does_served a (moved f g v) ≡ after_done (moved f g) (does_served a v)
+module _ (f : List InboxMessage → List InboxMessage) (g : List ℕ → List ℕ) (h : List Credit → List Credit) (v : LocalView) (passes : Passes v.actor.me v.now f g h v.ctl.mail.inbox) where
+  act_moved : (a : Act) → does_served a (moved f g h v) ≡ after_done (moved f g h) (does_served a v)
   act_moved Now = refl
   act_moved Me = refl
-  act_moved (Get r field) = reads_moved (moved f g) v (get v r field)
+  act_moved (Get r field) = reads_moved (moved f g h) v (get v r field)
   act_moved (Set r field value) =
-      changes_moved (moved f g) v tt (set v r field value) (set (moved f g v) r field value) (table_moved f g v r.table (λ t. table_with_field t r.line field value (fields_in t r.line)))
+      changes_moved (moved f g h) v tt (set v r field value) (set (moved f g h v) r field value) (table_moved f g h v r.table (λ t. table_with_field t r.line field value (fields_in t r.line)))
   act_moved (Lookup table line) = refl
   act_moved (Avail table line) = refl
-  act_moved (Probe table line) = reads_moved (moved f g) v (probe v table line)
+  act_moved (Probe table line) = reads_moved (moved f g h) v (probe v table line)
   act_moved (Allocate table line) =
-      changes_moved (moved f g) v (reference_to table line) (allocate v table line) (allocate (moved f g v) table line) (table_moved f g v table (with_line (initial_fields v.machine table) line))
-  act_moved (Deallocate table line) = changes_moved (moved f g) v tt (deallocate v table line) (deallocate (moved f g v) table line) (table_moved f g v table (without_line_in line))
-  act_moved (Touch table line) = changes_moved (moved f g) v tt (touch v table line) (touch (moved f g v) table line) (table_moved f g v table (used_line line))
+      changes_moved (moved f g h) v (reference_to table line) (allocate v table line) (allocate (moved f g h v) table line) (table_moved f g h v table (with_line (initial_fields v.machine table) line))
+  act_moved (Deallocate table line) = changes_moved (moved f g h) v tt (deallocate v table line) (deallocate (moved f g h v) table line) (table_moved f g h v table (without_line_in line))
+  act_moved (Touch table line) = changes_moved (moved f g h) v tt (touch v table line) (touch (moved f g h v) table line) (table_moved f g h v table (used_line line))
   act_moved (Free table) = refl
-  act_moved (Ready buffer) = ap (λ (o : Option Message). reads (moved f g v) (Ok (is_some o))) (front_moved f g v passes buffer)
+  act_moved (Ready buffer) = ap (λ (o : Option Message). reads (moved f g h v) (Ok (is_some o))) (front_moved f g h v passes buffer)
   act_moved (Front buffer) =
-      ap (λ (o : Option Message). reads (moved f g v) (needed o)) (front_moved f g v passes buffer)
-      ∙ reads_moved (moved f g) v (required_front v buffer)
-  act_moved (Pop buffer) = changes_moved (moved f g) v tt (pop v buffer) (pop (moved f g v) buffer) (pop_moved f g v passes buffer)
-  act_moved (Stall buffer line) = changes_moved (moved f g) v tt (stall v buffer line) (stall (moved f g v) buffer line) (stall_moved f g v passes buffer line)
-  act_moved (Wake line) = ap (λ (w : LocalView). changes tt (Ok w)) (wake_moved f g v passes (is_under line) refl)
-  act_moved WakeAll = ap (λ (w : LocalView). changes tt (Ok w)) (wake_moved f g v passes is_some refl)
-  act_moved (Recycle buffer latency) = changes_moved (moved f g) v tt (recycle v buffer latency) (recycle (moved f g v) buffer latency) (recycle_moved f g v passes buffer latency)
-  act_moved (Send buffer latency fields) = changes_moved (moved f g) v tt (enqueue v buffer latency fields) (enqueue (moved f g v) buffer latency fields) (enqueue_moved f g v passes buffer latency fields)
-  act_moved (ReadBack line block) = changes_moved (moved f g) v tt (read_back v line block) (read_back (moved f g v) line block) (read_moved f g v line block)
+      ap (λ (o : Option Message). reads (moved f g h v) (needed o)) (front_moved f g h v passes buffer)
+      ∙ reads_moved (moved f g h) v (required_front v buffer)
+  act_moved (Pop buffer) = changes_moved (moved f g h) v tt (pop v buffer) (pop (moved f g h v) buffer) (pop_moved f g h v passes buffer)
+  act_moved (Stall buffer line) = changes_moved (moved f g h) v tt (stall v buffer line) (stall (moved f g h v) buffer line) (stall_moved f g h v passes buffer line)
+  act_moved (Wake line) = ap (λ (w : LocalView). changes tt (Ok w)) (wake_moved f g h v passes (is_under line) refl)
+  act_moved WakeAll = ap (λ (w : LocalView). changes tt (Ok w)) (wake_moved f g h v passes is_some refl)
+  act_moved (Recycle buffer latency) = changes_moved (moved f g h) v tt (recycle v buffer latency) (recycle (moved f g h v) buffer latency) (recycle_moved f g h v passes buffer latency)
+  act_moved (Send buffer latency fields) = changes_moved (moved f g h) v tt (enqueue v buffer latency fields) (enqueue (moved f g h v) buffer latency fields) (enqueue_moved f g h v passes buffer latency fields)
+  act_moved (Slots buffer) = ap (λ (o : Option ℕ). reads (moved f g h v) (Ok o)) (slots_moved f g h v passes buffer)
+  act_moved (ReadBack line block) = changes_moved (moved f g h) v tt (read_back v line block) (read_back (moved f g h v) line block) (read_moved f g h v line block)
   act_moved (WriteBack line block) =
-      changes_moved (moved f g) v (block_after_write v line block) (write_back v line block) (write_back (moved f g v) line block) (write_moved f g v line block)
+      changes_moved (moved f g h) v (block_after_write v line block) (write_back v line block) (write_back (moved f g h v) line block) (write_moved f g h v line block)
   act_moved (State line) = refl
   act_moved (SetState line new) = refl
-  act_moved Again = ap (λ (w : LocalView). changes tt (Ok w)) (again_moved f g v passes)
+  act_moved Again = ap (λ (w : LocalView). changes tt (Ok w)) (again_moved f g h v passes)
 
--- one message, and one mark
+-- one message, one credit, and one mark
 abbrev with_later : Message → LocalView → LocalView
-with_later m = moved (λ l. with_message l (incoming_message m)) (λ marks. marks)
+with_later m = moved (λ l. with_message l (incoming_message m)) (λ marks. marks) (λ credits. credits)
+
+abbrev with_later_credit : Credit → LocalView → LocalView
+with_later_credit k = moved (λ l. l) (λ marks. marks) (λ credits. with_credit credits k)
 
 abbrev with_later_mark : ℕ → LocalView → LocalView
-with_later_mark cycle = moved (λ l. l) (λ marks. with_mark marks cycle)
+with_later_mark cycle = moved (λ l. l) (λ marks. with_mark marks cycle) (λ credits. credits)
 
-abbrev more_of : List Message → List ℕ → Added
-more_of messages marks = record { messages = messages; marks = marks }
+abbrev more_of : List Message → List Credit → List ℕ → Added
+more_of messages credits marks = record { messages = messages; credits = credits; marks = marks }
 
 module _ {A : Type 0} where
-  after_one : (m : Message) (ms : List Message) (cs : List ℕ) (r : Result (Done A) Fault) → after_adding (more_of ms cs) (after_done (with_later m) r) ≡ after_adding (more_of (m ∷ ms) cs) r
-  after_one m ms cs (Ok d) = refl
-  after_one m ms cs (Err e) = refl
+  after_one : (m : Message) (ms : List Message) (ks : List Credit) (cs : List ℕ) (r : Result (Done A) Fault) → after_adding (more_of ms ks cs) (after_done (with_later m) r) ≡ after_adding (more_of (m ∷ ms) ks cs) r
+  after_one m ms ks cs (Ok d) = refl
+  after_one m ms ks cs (Err e) = refl
 
-  after_mark : (c : ℕ) (cs : List ℕ) (r : Result (Done A) Fault) → after_adding (more_of [] cs) (after_done (with_later_mark c) r) ≡ after_adding (more_of [] (c ∷ cs)) r
+  after_credit : (k : Credit) (ks : List Credit) (cs : List ℕ) (r : Result (Done A) Fault) → after_adding (more_of [] ks cs) (after_done (with_later_credit k) r) ≡ after_adding (more_of [] (k ∷ ks) cs) r
+  after_credit k ks cs (Ok d) = refl
+  after_credit k ks cs (Err e) = refl
+
+  after_mark : (c : ℕ) (cs : List ℕ) (r : Result (Done A) Fault) → after_adding (more_of [] [] cs) (after_done (with_later_mark c) r) ≡ after_adding (more_of [] [] (c ∷ cs)) r
   after_mark c cs (Ok d) = refl
   after_mark c cs (Err e) = refl
 
-  after_none : (r : Result (Done A) Fault) → r ≡ after_adding (more_of [] []) r
+  after_none : (r : Result (Done A) Fault) → r ≡ after_adding (more_of [] [] []) r
   after_none (Ok d) = refl
   after_none (Err e) = refl
 
-marks_added : (cs : List ℕ) (a : Act) (v : LocalView) → does_served a (with_added (more_of [] cs) v) ≡ after_adding (more_of [] cs) (does_served a v)
+marks_added : (cs : List ℕ) (a : Act) (v : LocalView) → does_served a (with_added (more_of [] [] cs) v) ≡ after_adding (more_of [] [] cs) (does_served a v)
 marks_added [] a v = after_none (does_served a v)
 marks_added (c ∷ cs) a v =
     marks_added cs a (with_later_mark c v)
-    ∙ ap (after_adding (more_of [] cs)) (act_moved (λ l. l) (λ marks. with_mark marks c) v (mark_passes v.actor.me v.now v.ctl.mail.inbox c) a)
+    ∙ ap (after_adding (more_of [] [] cs)) (act_moved (λ l. l) (λ marks. with_mark marks c) (λ credits. credits) v (mark_passes v.actor.me v.now v.ctl.mail.inbox c) a)
     ∙ after_mark c cs (does_served a v)
+
+credits_added : (ks : List Credit) (cs : List ℕ) (a : Act) (v : LocalView) → All (λ (k : Credit). v.now < k.arrival) ks → does_served a (with_added (more_of [] ks cs) v) ≡ after_adding (more_of [] ks cs) (does_served a v)
+credits_added [] cs a v later = marks_added cs a v
+credits_added (k ∷ ks) cs a v later =
+    credits_added ks cs a (with_later_credit k v) (All-tail (λ (c : Credit). v.now < c.arrival) k ks later)
+    ∙ ap (after_adding (more_of [] ks cs)) (act_moved (λ l. l) (λ marks. marks) (λ credits. with_credit credits k) v (credit_passes v.actor.me v.now v.ctl.mail.inbox k (All-head (λ (c : Credit). v.now < c.arrival) k ks later)) a)
+    ∙ after_credit k ks cs (does_served a v)
 
 still_new : (me now : ℕ) (inbox : List InboxMessage) (m n : Message) → ¬ (m.number ≡ n.number) → IsNew me now inbox n → IsNew me now (with_message inbox (incoming_message m)) n
 still_new me now inbox m n differ new = record {
@@ -101,16 +117,16 @@ all_still_new me now inbox m ms differ all = λ k d within. still_new me now inb
 abbrev Differ : Message → Message → Type 0
 Differ a b = ¬ (a.number ≡ b.number)
 
-all_added : (ms : List Message) (cs : List ℕ) (a : Act) (v : LocalView) → NumbersAscend v.ctl.mail.inbox → All (IsNew v.actor.me v.now v.ctl.mail.inbox) ms → AllPairs Differ ms
-    → does_served a (with_added (more_of ms cs) v) ≡ after_adding (more_of ms cs) (does_served a v)
-all_added [] cs a v ascends all differ = marks_added cs a v
-all_added (m ∷ ms) cs a v ascends all differ =
+all_added : (ms : List Message) (ks : List Credit) (cs : List ℕ) (a : Act) (v : LocalView) → NumbersAscend v.ctl.mail.inbox → All (IsNew v.actor.me v.now v.ctl.mail.inbox) ms → AllPairs Differ ms → All (λ (k : Credit). v.now < k.arrival) ks
+    → does_served a (with_added (more_of ms ks cs) v) ≡ after_adding (more_of ms ks cs) (does_served a v)
+all_added [] ks cs a v ascends all differ later = credits_added ks cs a v later
+all_added (m ∷ ms) ks cs a v ascends all differ later =
     let inbox = v.ctl.mail.inbox in
     let new = All-head (IsNew v.actor.me v.now inbox) m ms all in
-    all_added ms cs a (with_later m v) (ascend-with inbox (incoming_message m) ascends)
-    (all_still_new v.actor.me v.now inbox m ms (AllPairs-head Differ m ms differ) (All-tail (IsNew v.actor.me v.now inbox) m ms all)) (AllPairs-tail Differ m ms differ)
-    ∙ ap (after_adding (more_of ms cs)) (act_moved (λ l. with_message l (incoming_message m)) (λ marks. marks) v (message_passes v.actor.me v.now inbox ascends m new) a)
-    ∙ after_one m ms cs (does_served a v)
+    all_added ms ks cs a (with_later m v) (ascend-with inbox (incoming_message m) ascends)
+    (all_still_new v.actor.me v.now inbox m ms (AllPairs-head Differ m ms differ) (All-tail (IsNew v.actor.me v.now inbox) m ms all)) (AllPairs-tail Differ m ms differ) later
+    ∙ ap (after_adding (more_of ms ks cs)) (act_moved (λ l. with_message l (incoming_message m)) (λ marks. marks) (λ credits. credits) v (message_passes v.actor.me v.now inbox ascends m new) a)
+    ∙ after_one m ms ks cs (does_served a v)
 
 -- what a scan's inbox doesn't have as it begins, it doesn't get but from others
 counted_none : (f : MsgNo → Bool) (xs : List MsgNo) → count_by f xs ≡ 0 → All (λ n. f n ≡ false) xs
@@ -156,6 +172,7 @@ new_in me other_me now other_now inbox other_inbox same_me same_now same_inbox m
 are_new : (v w : LocalView) (more : Added) → SameScan v w → AreNew v more → AreNew w more
 are_new v w more scan new = record {
   each = λ k d within. new_in v.actor.me w.actor.me v.now w.now v.start.mail.inbox w.start.mail.inbox (ap (λ (a : Actor). a.me) scan.actor) scan.now (ap (λ (c : Ctl). c.mail.inbox) scan.start) _ (new.each k d within);
+  credits_later = subst (λ (n : ℕ). All (λ (c : Credit). n < c.arrival) more.credits) (sym scan.now) new.credits_later;
   differ = new.differ;
 }
 
@@ -174,7 +191,7 @@ module _ (more : Added) where
   each_act a v w served e =
       let all : All (IsNew v.actor.me v.now v.ctl.mail.inbox) more.messages = λ k d within. new_now v e.lawful _ (e.new.each k d within) in
       let same : does_served a w ≡ after_adding more (does_served a v) =
-      ap (does_served a) e.is ∙ all_added more.messages more.marks a v e.lawful.scan.fits.mail.inbox_ascends all e.new.differ in
+      ap (does_served a) e.is ∙ all_added more.messages more.credits more.marks a v e.lawful.scan.fits.mail.inbox_ascends all e.new.differ e.new.credits_later in
       subst (Agrees IsExtended (does_served a v)) (sym same)
       (agrees_extended v (does_served a v) e.new (lawful_act a v served e.lawful) (act_effect a v))
 

@@ -3,7 +3,7 @@ use Rattle.std.proofs.Common.{◌≡◌, ℕ, List, Result, Ok, Err, All, subst,
 use Rattle.ruby_value.specs.declared.fault.Fault.{Fault}
 use Rattle.ruby_value.specs.declared.fault.Fault.TheVariants as fault
 use Rattle.ruby_value.specs.declared.setup.MachineSetup.{MachineSetup}
-use Rattle.ctl_face.specs.Prelude.{IsLawful, FitsReceiver, IsController, IsInRun, Actor, LocalView, SameScan}
+use Rattle.ctl_face.specs.Prelude.{IsLawful, FitsReceiver, IsController, IsInRun, Actor, LocalView, SameScan, messages_among}
 use Rattle.ctl_face.proofs.Receivers.{posted_fit}
 use Rattle.acts.specs.Prelude.{Acting, run, HoldsAfter, Done, CountsStay, IsMarked, MarksStay, HasMailed}
 use Rattle.acts.proofs.Laws.{all_keeps, keeps_where_served}
@@ -45,6 +45,6 @@ module _ {A : Type 0} (p : Acting A) (v : LocalView) where
     pub stays_in_run : IsInRun machines ranges v → HoldsAfter (IsInRun machines ranges) (run p v)
     stays_in_run is = in_run_after (run p v) is.controller stays_in_scan (stays_lawful is.lawful)
 
-    pub copies_have_receivers : IsInRun machines ranges v → HoldsAfter (λ w. All (FitsReceiver machines ranges) w.acts.posted) (run p v)
+    pub copies_have_receivers : IsInRun machines ranges v → HoldsAfter (λ w. All (FitsReceiver machines ranges) (messages_among w.acts.posted)) (run p v)
     copies_have_receivers is =
-        weaker_after (IsInRun machines ranges) (λ w. All (FitsReceiver machines ranges) w.acts.posted) (posted_fit machines ranges) (run p v) (stays_in_run is)
+        weaker_after (IsInRun machines ranges) (λ w. All (FitsReceiver machines ranges) (messages_among w.acts.posted)) (posted_fit machines ranges) (run p v) (stays_in_run is)

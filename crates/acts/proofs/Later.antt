@@ -1,12 +1,14 @@
--- A later message of another actor, and a mark, are such additions.
-use Rattle.std.proofs.Common.{◌≡◌, ◌<◌, ◌⊎◌, ◌&&◌, ◌==◌, ⊎_elim, ℕ, Bool, true, false, cond, not, List, All, Contains, refl, sym, subst, ap, ◌∙◌, arith, nat_le, nat_lt}
+-- A later message of another actor, a later credit, and a mark, are such additions.
+use Rattle.std.proofs.Common.{◌≡◌, ◌<◌, ◌+◌, ◌⊎◌, ◌&&◌, ◌==◌, ⊎_elim, ℕ, Bool, true, false, cond, not, List, All, Contains, refl, sym, subst, ap, ◌∙◌, arith, nat_le, nat_lt}
 use Rattle.std.proofs.lemmas.Bool.Decides.{nat_tests}
 use Rattle.std.proofs.lemmas.List.Elements.{All-contains, All-weaker}
 use Rattle.ruby_value.specs.declared.message.Message.{Message}
 use Rattle.ruby_value.specs.declared.message.MsgNo.{MsgNo}
 use Rattle.ruby_value.specs.Prelude.{with_mark, number_before, same_number}
-use Rattle.ctl_face.specs.Prelude.{InboxMessage, NumbersAscend, is_ready, incoming_message, message_waiting_no_longer}
+use Rattle.ctl_face.specs.declared.parcel.Credit.{Credit}
+use Rattle.ctl_face.specs.Prelude.{arrived_credits, is_credit_of, with_credit, InboxMessage, NumbersAscend, is_ready, incoming_message, message_waiting_no_longer}
 use Rattle.ctl_face.specs.Inbox.{with_message}
+use Rattle.ctl_face.proofs.Credits.{credit_counted, credits_in_any_order}
 use Rattle.ctl_face.proofs.Inboxes.{KeepsNumber, number_before_trans}
 use Rattle.acts.specs.Prelude.{IsNew}
 use Rattle.acts.proofs.Frames.{Passes}
@@ -56,12 +58,12 @@ messages_swap a b differ inbox =
     (λ (second : Before b a ≡ true). sym (puts_swap Before b a second (one_way b a second) (λ x low. between b a x second low) inbox))
     (apart a.message.number b.message.number differ)
 
+late : (a n : ℕ) → n < a → nat_le a n ≡ false
+late a n is = grind (arith, nat_tests, is)
+
 not_yet : (buffer now : ℕ) (m : Message) → now < m.arrival → is_ready buffer now (incoming_message m) ≡ false
 not_yet buffer now m later = go (m.buffer == buffer) (nat_le m.arrival now) (late m.arrival now later)
   where
-    late : (a n : ℕ) → n < a → nat_le a n ≡ false
-    late a n is = grind (arith, nat_tests, is)
-
     go : (b c : Bool) → c ≡ false → (b && c && true) ≡ false
     go true true is = is
     go true false is = refl
@@ -75,7 +77,7 @@ module _ (me now : ℕ) (inbox : List InboxMessage) (ascends : NumbersAscend inb
   not_it n there =
       not_same m.number n.number (λ same. All-contains (λ (o : InboxMessage). ¬ (o.message.number ≡ m.number)) inbox (incoming_message n) new.unknown there (sym same))
 
-  pub message_passes : Passes me now (λ l. with_message l (incoming_message m)) (λ marks. marks) inbox
+  pub message_passes : Passes me now (λ l. with_message l (incoming_message m)) (λ marks. marks) (λ credits. credits) inbox
   message_passes = record {
     ready = λ buffer. filter_passes_over Before one_way goes_on (incoming_message m) (is_ready buffer now) inbox (not_yet buffer now m new.later) ascends all_apart;
     out = λ n there. filter_put Before (λ (o : InboxMessage). not (same_number o.message.number n.number)) inbox (incoming_message m) (ap not (not_it n there));
@@ -92,6 +94,8 @@ module _ (me now : ℕ) (inbox : List InboxMessage) (ascends : NumbersAscend inb
     told = λ test none. filter_passes_over Before one_way goes_on (incoming_message m) (λ (o : InboxMessage). test o.waiting) inbox none ascends all_apart;
     put = λ l n own. messages_swap (incoming_message m) (incoming_message n) (λ same. new.other (ap (λ (k : MsgNo). k.sender) same ∙ own)) l;
     mark = λ l c. refl;
+    credit = λ l c. refl;
+    arrived = λ l receiver buffer. refl;
   }
     where
       go : (b : Bool) (change : InboxMessage → InboxMessage) → KeepsNumber change → (o : InboxMessage) → (cond b (change o) o).message.number ≡ o.message.number
@@ -119,7 +123,7 @@ marks_swap a b marks =
     differ)
     (of_three a b)
 
-pub mark_passes : (me now : ℕ) (inbox : List InboxMessage) (cycle : ℕ) → Passes me now (λ l. l) (λ marks. with_mark marks cycle) inbox
+pub mark_passes : (me now : ℕ) (inbox : List InboxMessage) (cycle : ℕ) → Passes me now (λ l. l) (λ marks. with_mark marks cycle) (λ credits. credits) inbox
 mark_passes me now inbox cycle = record {
   ready = λ buffer. refl;
   out = λ n there. refl;
@@ -128,4 +132,30 @@ mark_passes me now inbox cycle = record {
   told = λ test none. refl;
   put = λ l n own. refl;
   mark = λ l c. marks_swap cycle c l;
+  credit = λ l c. refl;
+  arrived = λ l receiver buffer. refl;
+}
+
+-- a credit
+not_arrived : (credits : List Credit) (c : Credit) (receiver buffer now : ℕ) → now < c.arrival → arrived_credits (with_credit credits c) receiver buffer now ≡ arrived_credits credits receiver buffer now
+not_arrived credits c receiver buffer now later =
+    let more = credit_counted credits c receiver buffer now in
+    let none = none_more (is_credit_of receiver buffer c) (nat_le c.arrival now) (late c.arrival now later) in
+    omega arith
+  where
+    none_more : (b d : Bool) → d ≡ false → ◌≡◌ {A = ℕ} (cond (b && d) 1 0) 0
+    none_more true d is = rw is refl
+    none_more false d is = refl
+
+pub credit_passes : (me now : ℕ) (inbox : List InboxMessage) (k : Credit) → now < k.arrival → Passes me now (λ l. l) (λ marks. marks) (λ credits. with_credit credits k) inbox
+credit_passes me now inbox k later = record {
+  ready = λ buffer. refl;
+  out = λ n there. refl;
+  changed = λ n there change keeps. refl;
+  woken = λ test none. refl;
+  told = λ test none. refl;
+  put = λ l n own. refl;
+  mark = λ l c. refl;
+  credit = λ l c. credits_in_any_order l k c;
+  arrived = λ l receiver buffer. not_arrived l k receiver buffer now later;
 }

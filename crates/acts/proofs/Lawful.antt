@@ -12,7 +12,7 @@ use Rattle.ctl_face.proofs.LawfulAfter.{lawful_after, own_below}
 use Rattle.ctl_face.proofs.MailKept.{again_keeps, pop_keeps, recycle_keeps, stall_keeps, wake_all_keeps, wake_keeps}
 use Rattle.ctl_face.proofs.Sendings.{enqueue_keeps}
 use Rattle.ctl_face.proofs.TableCalls.{allocate_keeps, deallocate_keeps, set_keeps, touch_keeps}
-use Rattle.acts.specs.Prelude.{Act, Now, Me, Get, Set, Lookup, Avail, Probe, Allocate, Deallocate, Touch, Free, Ready, Front, Pop, Stall, Wake, WakeAll, Recycle, Send, ReadBack, WriteBack, State, SetState, Again, HoldsAfter, changes, does_served, reads, is_line, serves, takes, takes_field}
+use Rattle.acts.specs.Prelude.{Act, Now, Me, Get, Set, Lookup, Avail, Probe, Allocate, Deallocate, Touch, Free, Ready, Front, Pop, Stall, Wake, WakeAll, Recycle, Send, Slots, ReadBack, WriteBack, State, SetState, Again, HoldsAfter, changes, does_served, reads, is_line, serves, takes, takes_field}
 
 pub line_is : (line : ℕ) → is_line line ≡ true → IsLine line
 line_is line is = ltb-true line line_limit is
@@ -73,6 +73,7 @@ lawful_act (Send buffer latency fields) v is l =
     holds_changes IsLawful tt (enqueue v buffer latency fields)
     (lawful_after (enqueue v buffer latency fields) (enqueue_keeps v buffer latency fields parts.1 l.scan)
     (enqueue_acts v buffer latency fields parts.1 (own_below v l.scan) l.acts))
+lawful_act (Slots buffer) v is l = l
 lawful_act (ReadBack line block) v is l =
     holds_changes IsLawful tt (read_back v line block)
     (lawful_after (read_back v line block) (read_back_keeps v line block l.scan) (read_acts v l.acts line block))

@@ -3,7 +3,7 @@
 use Rattle.std.proofs.Common.{◌≡◌, ℕ, List, Result, Ok, Err, All, refl, sym, ap, subst, ◌∙◌}
 use Rattle.ruby_value.specs.declared.fault.Fault.{Fault}
 use Rattle.ruby_value.specs.declared.setup.MachineSetup.{MachineSetup}
-use Rattle.ctl_face.specs.Prelude.{IsLawful, FitsReceiver, IsInRun, LocalView, SameScan}
+use Rattle.ctl_face.specs.Prelude.{IsLawful, FitsReceiver, IsInRun, LocalView, SameScan, messages_among}
 use Rattle.acts.specs.Prelude.{Act, answer, Acting, ends, stops, acts, follow, run, HoldsAfter, Done, does, CountsStay, IsMarked, MarksStay, IsLeft, HasMailed}
 use Rattle.acts.proofs.Instances.{copies_have_receivers, counts_stay, mail_moves, marks_stay, stays_in_scan, stays_lawful, stays_marked}
 
@@ -77,6 +77,6 @@ module _ (v w : LocalView) (left : IsLeft v w) where
   pub left_mailed : IsLawful v → HasMailed w
   left_mailed l = holds_of_left HasMailed (mail_moves left.body v l)
 
-  pub left_copies : (machines : List MachineSetup) (ranges : List (ℕ × ℕ)) → IsInRun machines ranges v → All (FitsReceiver machines ranges) w.acts.posted
+  pub left_copies : (machines : List MachineSetup) (ranges : List (ℕ × ℕ)) → IsInRun machines ranges v → All (FitsReceiver machines ranges) (messages_among w.acts.posted)
   left_copies machines ranges is =
-      holds_of_left (λ t. All (FitsReceiver machines ranges) t.acts.posted) (copies_have_receivers left.body v machines ranges is)
+      holds_of_left (λ t. All (FitsReceiver machines ranges) (messages_among t.acts.posted)) (copies_have_receivers left.body v machines ranges is)

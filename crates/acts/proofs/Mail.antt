@@ -3,7 +3,7 @@ use Rattle.std.proofs.Common.{◌≡◌, ◌<◌, ◌+◌, ℕ, zero, suc, Bool,
 use Rattle.std.proofs.lemmas.Bool.{eq-eqb}
 use Rattle.std.proofs.lemmas.List.Elements.{All-cons, All-filter, All-head, All-nil, All-tail}
 use Rattle.ruby_value.specs.declared.message.MsgNo.{MsgNo}
-use Rattle.ctl_face.specs.Prelude.{sent_of, IsLawful, LocalView}
+use Rattle.ctl_face.specs.Prelude.{sent_of, IsLawful, LocalView, messages_among}
 use Rattle.ruby_value.specs.declared.message.Sent.{Sent}
 use Rattle.ruby_value.specs.Prelude.{numbers_from}
 use Rattle.acts.specs.Prelude.{HasMailed, IsPosted}
@@ -40,6 +40,7 @@ module _ (v : LocalView) (l : IsLawful v) where
   has_mailed = record {
     moves = record { moved = l.acts.1; numbers = l.acts.0.numbers; sent = l.acts.0.count };
     posted = posted;
+    credits = l.acts.2;
   }
     where
       sent : All (λ (n : Sent). (n.number.sender ≡ v.actor.me) × (v.now < n.arrival)) v.acts.sent
@@ -54,9 +55,9 @@ module _ (v : LocalView) (l : IsLawful v) where
           all_both (λ (n : Sent). (n.number.sender ≡ v.actor.me) × (v.now < n.arrival)) (λ (n : Sent). not (eqb n.receiver v.actor.me) ≡ true) (filter (λ (n : Sent). not (eqb n.receiver v.actor.me)) v.acts.sent)
           (All-filter (λ (n : Sent). not (eqb n.receiver v.actor.me)) (λ (n : Sent). (n.number.sender ≡ v.actor.me) × (v.now < n.arrival)) v.acts.sent sent) (all_tested (λ (n : Sent). not (eqb n.receiver v.actor.me)) v.acts.sent)
 
-      posted : All (IsPosted v.actor.me v.now) v.acts.posted
+      posted : All (IsPosted v.actor.me v.now) (messages_among v.acts.posted)
       posted =
-          let of_copies = all_from_map (λ (n : Sent). ((n.number.sender ≡ v.actor.me) × (v.now < n.arrival)) × (not (eqb n.receiver v.actor.me) ≡ true)) sent_of v.acts.posted (subst (All (λ (n : Sent). ((n.number.sender ≡ v.actor.me) × (v.now < n.arrival)) × (not (eqb n.receiver v.actor.me) ≡ true))) (sym l.acts.0.for_others) notes) in
+          let of_copies = all_from_map (λ (n : Sent). ((n.number.sender ≡ v.actor.me) × (v.now < n.arrival)) × (not (eqb n.receiver v.actor.me) ≡ true)) sent_of (messages_among v.acts.posted) (subst (All (λ (n : Sent). ((n.number.sender ≡ v.actor.me) × (v.now < n.arrival)) × (not (eqb n.receiver v.actor.me) ≡ true))) (sym l.acts.0.for_others) notes) in
           λ k d within.
           let c = of_copies k d within in
           let routed = l.acts.0.routed k d within in

@@ -13,12 +13,13 @@ use Rattle.ruby_value.specs.declared.setup.BufferSetup.{BufferSetup}
 use Rattle.ruby_value.specs.declared.setup.MachineSetup.{MachineSetup}
 use Rattle.ruby_value.specs.declared.value.Value.{Value}
 use Rattle.ruby_value.specs.Prelude.{has_mark, with_mark, number_before, same_number}
-use Rattle.ctl_face.specs.Prelude.{InboxMessage, Mail, without_message, last_at, is_latency, Actor, incoming_message, mail_with_delivery, receiving_buffer, Sending, copy_limit, local_arrival, local_copy, network_arrival, next_copy, no_copies, receivers_of, send, sending_from, sending_on, with_network_copy}
+use Rattle.ctl_face.specs.declared.parcel.Credit.{Credit}
+use Rattle.ctl_face.specs.Prelude.{credit_before, with_credit, InboxMessage, Mail, without_message, last_at, is_latency, Actor, incoming_message, mail_with_delivery, receiving_buffer, Sending, copy_limit, local_arrival, local_copy, network_arrival, next_copy, no_copies, receivers_of, send, sending_from, sending_on, with_network_copy}
 use Rattle.ctl_face.specs.Inbox.{with_message}
 use Rattle.ctl_face.proofs.Arrivals.{copy_later, positive, raised}
 use Rattle.ctl_face.proofs.Cases.{Good, good_ok, good_err, good_cond, good_unless}
 use Rattle.ctl_face.proofs.OneKey.{with_mark-has}
-use Rattle.acts.specs.Prelude.{AreMarked, KeepsMarks}
+use Rattle.acts.specs.Prelude.{AreCreditsMarked, AreMarked, KeepsMarks}
 
 pub same_bool : (a b : Bool) → (a ≡ true → b ≡ true) → (b ≡ true → a ≡ true) → a ≡ b
 same_bool true b to from = sym (to refl)
@@ -28,7 +29,7 @@ same_bool false false to from = refl
 pub marks_kept : (marks : List ℕ) (now : ℕ) → KeepsMarks marks now marks
 marks_kept marks now = record { stay = λ cycle has. has; none_due = λ cycle is. refl }
 
-has_more : (marks : List ℕ) (mark cycle : ℕ) → IsTrue (has_mark marks cycle) → IsTrue (has_mark (with_mark marks mark) cycle)
+pub has_more : (marks : List ℕ) (mark cycle : ℕ) → IsTrue (has_mark marks cycle) → IsTrue (has_mark (with_mark marks mark) cycle)
 has_more marks mark cycle has = (with_mark-has marks mark cycle).1 (inr has)
 
 pub has_itself : (marks : List ℕ) (mark : ℕ) → IsTrue (has_mark (with_mark marks mark) mark)
@@ -72,18 +73,29 @@ marked_put now marks inbox m all =
     All-insert (λ (o : InboxMessage). now < o.message.arrival → IsTrue (has_mark (with_mark marks m.arrival) o.message.arrival)) (λ (o : InboxMessage). number_before o.message.number m.number) (λ (o : InboxMessage). number_before m.number o.message.number)
     (incoming_message m) inbox (marked_with now m.arrival marks inbox all) (λ later. has_itself marks m.arrival)
 
--- what a send does to a sender's inbox and marks: only what comes of a message that arrives later
-module _ (now : ℕ) (P : List InboxMessage → List ℕ → Type 0)
-    (put : (inbox : List InboxMessage) (marks : List ℕ) (m : Message) → now < m.arrival → P inbox marks → P (with_message inbox (incoming_message m)) (with_mark marks m.arrival)) where
+-- credits
+pub credits_marked : (now mark : ℕ) (marks : List ℕ) (credits : List Credit) → AreCreditsMarked now marks credits → AreCreditsMarked now (with_mark marks mark) credits
+credits_marked now mark marks credits all =
+    All-weaker (λ (c : Credit). now < c.arrival → IsTrue (has_mark marks c.arrival)) (λ (c : Credit). now < c.arrival → IsTrue (has_mark (with_mark marks mark) c.arrival))
+    (λ c has later. has_more marks mark c.arrival (has later)) credits all
+
+pub credits_put : (now : ℕ) (marks : List ℕ) (credits : List Credit) (c : Credit) → AreCreditsMarked now marks credits → AreCreditsMarked now (with_mark marks c.arrival) (with_credit credits c)
+credits_put now marks credits c all =
+    All-insert (λ (o : Credit). now < o.arrival → IsTrue (has_mark (with_mark marks c.arrival) o.arrival)) (λ o. not (credit_before c o)) (λ o. credit_before c o)
+    c credits (credits_marked now c.arrival marks credits all) (λ later. has_itself marks c.arrival)
+
+-- what a send does to a sender's inbox, marks and credits: only what comes of a message that arrives later
+module _ (now : ℕ) (P : List InboxMessage → List ℕ → List Credit → Type 0)
+    (put : (inbox : List InboxMessage) (marks : List ℕ) (credits : List Credit) (m : Message) → now < m.arrival → P inbox marks credits → P (with_message inbox (incoming_message m)) (with_mark marks m.arrival) credits) where
   abbrev MailIs : Mail → Type 0
-  MailIs mail = P mail.inbox mail.marks
+  MailIs mail = P mail.inbox mail.marks mail.credits
 
   abbrev SentIs : Sending → Type 0
   SentIs s = MailIs s.mail
 
   delivered : (b : Bool) (mail : Mail) (m : Message) → now < m.arrival → MailIs mail → MailIs (mail_with_delivery b mail m)
   delivered false mail m later is = is
-  delivered true mail m later is = put mail.inbox mail.marks m later is
+  delivered true mail m later is = put mail.inbox mail.marks mail.credits m later is
 
   each_sent : (actor : Actor) (network latency : ℕ) (fields : List Value) → 0 < latency → (members : List ℕ) (s : Sending) → SentIs s → SentIs (fold (with_network_copy actor network latency fields now) s members)
   each_sent actor network latency fields some [] s is = is
@@ -113,7 +125,7 @@ module _ (now : ℕ) (P : List InboxMessage → List ℕ → Type 0)
   sent_from None actor mail buffer latency fields some is = good_ok SentIs (no_copies mail) is
   sent_from (Some s) actor mail buffer latency fields some is = sent_on s.place s.ordered actor mail buffer latency fields some is
 
-  pub sent_is : (machine : MachineSetup) (actor : Actor) (mail : Mail) (buffer : ℕ) (latency : ℤ) (fields : List Value) (s : Sending) → send machine actor mail buffer latency fields now ≡ Ok s → P mail.inbox mail.marks → P s.mail.inbox s.mail.marks
+  pub sent_is : (machine : MachineSetup) (actor : Actor) (mail : Mail) (buffer : ℕ) (latency : ℤ) (fields : List Value) (s : Sending) → send machine actor mail buffer latency fields now ≡ Ok s → P mail.inbox mail.marks mail.credits → P s.mail.inbox s.mail.marks s.mail.credits
   sent_is machine actor mail buffer latency fields s sent is =
       let o = slice_get machine.buffers buffer in
       (good_cond SentIs (is_latency latency) (sending_from o actor mail buffer (nat_abs latency) fields now) (Err Latency)

@@ -6,7 +6,7 @@ use Rattle.ruby_value.specs.declared.kind.Kind.{Kind}
 use Rattle.ruby_value.specs.declared.value.Value.{Value}
 use Rattle.ruby_value.specs.Prelude.{has_kind, IsLine, line_limit}
 use Rattle.ctl_face.specs.Prelude.{LocalView, field_kinds}
-use Rattle.acts.specs.Prelude.{Act, Now, Me, Get, Set, Lookup, Avail, Probe, Allocate, Deallocate, Touch, Free, Ready, Front, Pop, Stall, Wake, WakeAll, Recycle, Send, ReadBack, WriteBack, State, SetState, Again, Required, is_line, serves, takes}
+use Rattle.acts.specs.Prelude.{Act, Now, Me, Get, Set, Lookup, Avail, Probe, Allocate, Deallocate, Touch, Free, Ready, Front, Pop, Stall, Wake, WakeAll, Recycle, Send, Slots, ReadBack, WriteBack, State, SetState, Again, Required, is_line, serves, takes}
 
 same : {A : Type 0} → A ↔ A
 same = (λ x. x, λ x. x)
@@ -52,6 +52,7 @@ as_required v (Wake line) = of_line line
 as_required v WakeAll = always
 as_required v (Recycle buffer latency) = same
 as_required v (Send buffer latency fields) = (λ test. and_parts _ _ test, λ holds. both _ _ holds.0 holds.1)
+as_required v (Slots buffer) = same
 as_required v (ReadBack line block) = of_line line
 as_required v (WriteBack line block) = of_line line
 as_required v (State line) = with_line line _ same

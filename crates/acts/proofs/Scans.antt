@@ -7,7 +7,7 @@ use Rattle.ruby_value.specs.declared.fault.Fault.TheVariants.{Front as NoFront, 
 use Rattle.ctl_face.specs.Prelude.{avail, least_used_in, probe, fields_behind, get, LocalView, SameScan, front_now, table_at, allocate, block_after_write, read_back, write_back, deallocate, enqueue, reference_to, pop, recycle, set, stall, touch}
 use Rattle.acts.specs.declared.body_fault.BodyFault.{BodyFault}
 use Rattle.acts.specs.declared.body_fault.BodyFault.TheVariants as own
-use Rattle.acts.specs.Prelude.{Act, Now, Me, Get, Set, Lookup, Avail, Probe, Allocate, Deallocate, Touch, Free, Ready, Front, Pop, Stall, Wake, WakeAll, Recycle, Send, ReadBack, WriteBack, State, SetState, Again, answer, Acting, ends, stops, acts, fault_of, follow, run, HoldsAfter, Done, changes, does, does_served, reads, serves}
+use Rattle.acts.specs.Prelude.{Act, Now, Me, Get, Set, Lookup, Avail, Probe, Allocate, Deallocate, Touch, Free, Ready, Front, Pop, Stall, Wake, WakeAll, Recycle, Send, Slots, ReadBack, WriteBack, State, SetState, Again, answer, Acting, ends, stops, acts, fault_of, follow, run, HoldsAfter, Done, changes, does, does_served, reads, serves}
 use Rattle.acts.proofs.Laws.{all_keeps, keeps_where_served}
 use Rattle.acts.proofs.Effects.{Changes, Effect, NotInvalid, again_effect, allocate_effect, deallocate_effect, pop_effect, read_effect, recycle_effect, send_effect, set_effect, set_state_effect, stall_effect, touch_effect, wake_effect, write_effect}
 use Rattle.acts.proofs.Marks.{marks_kept}
@@ -60,6 +60,7 @@ act_effect (Wake line) v = wake_effect v _
 act_effect WakeAll v = wake_effect v _
 act_effect (Recycle buffer latency) v = changed v tt (recycle v buffer latency) (recycle_effect v buffer latency)
 act_effect (Send buffer latency fields) v = changed v tt (enqueue v buffer latency fields) (send_effect v buffer latency fields)
+act_effect (Slots buffer) v = unchanged v
 act_effect (ReadBack line block) v = changed v tt (read_back v line block) (read_effect v line block)
 act_effect (WriteBack line block) v = changed v (block_after_write v line block) (write_back v line block) (write_effect v line block)
 act_effect (State line) v = unchanged v

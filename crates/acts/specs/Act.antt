@@ -30,6 +30,7 @@ pub data Act : Type 0 where
   WakeAll : Act
   Recycle : (buffer : ℕ) (latency : ℤ) → Act
   Send : (buffer : ℕ) (latency : ℤ) (fields : List Value) → Act
+  Slots : (buffer : ℕ) → Act
   -- on requests
   ReadBack : (line : ℕ) (block : Block) → Act
   WriteBack : (line : ℕ) (block : Block) → Act
@@ -59,6 +60,7 @@ answer (Wake line) = Unit {0}
 answer WakeAll = Unit {0}
 answer (Recycle buffer latency) = Unit {0}
 answer (Send buffer latency fields) = Unit {0}
+answer (Slots buffer) = Option ℕ
 answer (ReadBack line block) = Unit {0}
 answer (WriteBack line block) = Block
 answer (State line) = ℕ

@@ -3,8 +3,8 @@
 use Rattle.std.specs.Prelude.{Result, Ok, Err, if◌then◌else◌}
 use Rattle.ruby_value.specs.declared.fault.Fault.{Fault}
 use Rattle.ruby_value.specs.declared.fault.Fault.TheVariants.{Reference}
-use Rattle.ctl_face.specs.Prelude.{again, allocate, avail, probe, block_after_write, read_back, write_back, deallocate, enqueue, free, get, LocalView, lookup, reference_to, pop, ready, required_front, recycle, set, stall, set_state, state, touch, wake, wake_all}
-use Rattle.acts.specs.Act.{Act, Now, Me, Get, Set, Lookup, Avail, Probe, Allocate, Deallocate, Touch, Free, Ready, Front, Pop, Stall, Wake, WakeAll, Recycle, Send, ReadBack, WriteBack, State, SetState, Again, answer}
+use Rattle.ctl_face.specs.Prelude.{again, allocate, avail, probe, block_after_write, read_back, write_back, deallocate, enqueue, free, get, LocalView, lookup, reference_to, pop, ready, required_front, recycle, set, slots, stall, set_state, state, touch, wake, wake_all}
+use Rattle.acts.specs.Act.{Act, Now, Me, Get, Set, Lookup, Avail, Probe, Allocate, Deallocate, Touch, Free, Ready, Front, Pop, Stall, Wake, WakeAll, Recycle, Send, Slots, ReadBack, WriteBack, State, SetState, Again, answer}
 use Rattle.acts.specs.Serves.{serves}
 
 -- an answer, and the local after it
@@ -42,6 +42,7 @@ does_served (Wake line) v = changes tt (Ok (wake v line))
 does_served WakeAll v = changes tt (Ok (wake_all v))
 does_served (Recycle buffer latency) v = changes tt (recycle v buffer latency)
 does_served (Send buffer latency fields) v = changes tt (enqueue v buffer latency fields)
+does_served (Slots buffer) v = reads v (Ok (slots v buffer))
 does_served (ReadBack line block) v = changes tt (read_back v line block)
 does_served (WriteBack line block) v = changes (block_after_write v line block) (write_back v line block)
 does_served (State line) v = reads v (Ok (state v line))

@@ -2,7 +2,7 @@
 -- the call names, that a line is one, and that a value or a message has the kinds that are declared.
 use Rattle.ruby_value.specs.Prelude.{IsLine}
 use Rattle.ctl_face.specs.Prelude.{LocalView, HasField, HasStates, Receives, Sends, Serves, TakesField, TakesMessage, deallocates, is_cache, is_tbe_table, looks_up}
-use Rattle.acts.specs.Act.{Act, Now, Me, Get, Set, Lookup, Avail, Probe, Allocate, Deallocate, Touch, Free, Ready, Front, Pop, Stall, Wake, WakeAll, Recycle, Send, ReadBack, WriteBack, State, SetState, Again}
+use Rattle.acts.specs.Act.{Act, Now, Me, Get, Set, Lookup, Avail, Probe, Allocate, Deallocate, Touch, Free, Ready, Front, Pop, Stall, Wake, WakeAll, Recycle, Send, Slots, ReadBack, WriteBack, State, SetState, Again}
 
 abbrev pub Required : LocalView → Act → Type 0
 Required v Now = Unit {0}
@@ -24,6 +24,7 @@ Required v (Wake line) = IsLine line
 Required v WakeAll = Unit {0}
 Required v (Recycle buffer latency) = Receives v buffer
 Required v (Send buffer latency fields) = Sends v buffer × TakesMessage v buffer fields
+Required v (Slots buffer) = Sends v buffer
 Required v (ReadBack line block) = IsLine line
 Required v (WriteBack line block) = IsLine line
 Required v (State line) = HasStates v × IsLine line

@@ -6,7 +6,7 @@ use Rattle.ruby_value.specs.declared.setup.MachineSetup.{MachineSetup}
 use Rattle.ruby_value.specs.declared.value.Value.{Value}
 use Rattle.ruby_value.specs.Prelude.{has_kind, has_kinds, line_limit}
 use Rattle.ctl_face.specs.Prelude.{buffer_place, field_kinds, message_kinds, table_size, deallocates, is_cache, is_tbe_table, looks_up, receives, sends}
-use Rattle.acts.specs.Act.{Act, Now, Me, Get, Set, Lookup, Avail, Probe, Allocate, Deallocate, Touch, Free, Ready, Front, Pop, Stall, Wake, WakeAll, Recycle, Send, ReadBack, WriteBack, State, SetState, Again}
+use Rattle.acts.specs.Act.{Act, Now, Me, Get, Set, Lookup, Avail, Probe, Allocate, Deallocate, Touch, Free, Ready, Front, Pop, Stall, Wake, WakeAll, Recycle, Send, Slots, ReadBack, WriteBack, State, SetState, Again}
 
 abbrev pub is_line : ℕ → Bool
 is_line line = nat_lt line line_limit
@@ -42,6 +42,7 @@ serves m (Wake line) = is_line line
 serves m WakeAll = true
 serves m (Recycle buffer latency) = receives (buffer_place m buffer)
 serves m (Send buffer latency fields) = sends (buffer_place m buffer) && has_kinds (message_kinds m buffer) fields
+serves m (Slots buffer) = sends (buffer_place m buffer)
 serves m (ReadBack line block) = is_line line
 serves m (WriteBack line block) = is_line line
 serves m (State line) = is_line line && is_some m.default_state

@@ -2,7 +2,7 @@ ghost use Rattle.std.specs.Prelude.{◌≡◌, Err, ℕ, List};
 ghost use Rattle.std.specs.List.{All};
 ghost use Rattle.ruby_value.specs.declared.fault.Fault.TheVariants as fault;
 ghost use Rattle.ruby_value.specs.declared.setup.MachineSetup.{MachineSetup};
-ghost use Rattle.ctl_face.specs.Prelude.{IsLawful, FitsReceiver, IsInRun, LocalView, SameScan};
+ghost use Rattle.ctl_face.specs.Prelude.{IsLawful, FitsReceiver, messages_among, IsInRun, LocalView, SameScan};
 ghost use Rattle.acts.specs.Prelude.{Acting, run, HoldsAfter, Added, AreNew, after_adding, with_added, CountsStay, IsMarked, MarksStay, HasMailed};
 
 /// What holds of each lawful local holds after each body, which leaves it in the same scan, and counts no transition and doesn't stop
@@ -17,7 +17,8 @@ pub fn bodies_keep_what_holds<A>()
     ensures receivers { (p : Acting A) (machines : List MachineSetup) (ranges : List (ℕ × ℕ))
         (v : LocalView)
         → IsInRun machines ranges v
-        → HoldsAfter (λ w. All (FitsReceiver machines ranges) w.acts.posted) (run p v) }
+        → HoldsAfter (λ w. All (FitsReceiver machines ranges) (messages_among w.acts.posted))
+        (run p v) }
 {}
 
 /// No body takes a mark away, or sets one for its own cycle or an earlier one; and what it puts off, sends to its own controller or
@@ -39,7 +40,7 @@ pub fn bodies_never_stop_as_invalid<A>()
     ensures { (p : Acting A) (v : LocalView) → run p v ≡ Err fault.Invalid → ⊥ }
 {}
 
-/// Messages and marks that come to a controller, and are for later cycles, change what a body does by their addition alone.
+/// Messages, credits and marks that come to a controller, and are for later cycles, change what a body does by their addition alone.
 pub fn what_comes_later_changes_nothing<A>()
     ensures { (p : Acting A) (v : LocalView) (more : Added) → IsLawful v → AreNew v more
         → run p (with_added more v) ≡ after_adding more (run p v) }

@@ -20,7 +20,7 @@ pub use body_laws::{
 pub use ctl_face::{
     Block, Fault, Fields, Local, MachineSetup, Message, MessageAt, NoMemory, Ref, Trouble, Value,
 };
-pub use messages::{front, front_at, pop, ready, recycle, send, stall, wake, wake_all};
+pub use messages::{front, front_at, pop, ready, recycle, send, slots, stall, wake, wake_all};
 pub use own::{again, me, now, set_state, state};
 pub use requests::{read_back, write_back};
 pub use required::what_is_served_is_what_a_local_requires;

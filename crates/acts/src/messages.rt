@@ -2,10 +2,10 @@
 ghost use Rattle.std.specs.Prelude.{IfOk};
 ghost use Rattle.ctl_face.specs.Prelude.{IsPlace};
 ghost use Rattle.acts.specs.Lent.{message_there};
-ghost use Rattle.acts.specs.Prelude.{Front, Pop, Ready, Recycle, Send, Stall, Wake, WakeAll, act, DoesAs, itself};
+ghost use Rattle.acts.specs.Prelude.{Front, Pop, Ready, Recycle, Send, Slots, Stall, Wake, WakeAll, act, DoesAs, itself};
 
 use crate::serving::{is_line, not_served, serves_send};
-use ctl_face::{Fault, Fields, Local, Message, MessageAt, Trouble, receives};
+use ctl_face::{Fault, Fields, Local, Message, MessageAt, Trouble, receives, sends};
 
 /// Does `Ready`: whether a buffer has a front.
 pub fn ready<T: Local>(local: &T, buffer: u16) -> Result<bool, Trouble>
@@ -86,6 +86,16 @@ pub fn recycle<T: Local>(local: &mut T, buffer: u16, latency: i64) -> Result<(),
         return Err(not_served());
     }
     local.recycle(buffer, latency)
+}
+
+/// Does `Slots`: how many slots are left on a buffer that the machine sends on, where any receiver's buffer there has a size.
+pub fn slots<T: Local>(local: &T, buffer: u16) -> Result<Option<u64>, Trouble>
+    ensures { DoesAs itself (act (Slots buffer)) result (T.view local.now) (T.view local.now) }
+{
+    if !sends(local.machine(), buffer) {
+        return Err(not_served());
+    }
+    Ok(local.slots(buffer))
 }
 
 /// Does `Send`: sends a message with these fields.

@@ -21,7 +21,7 @@ pub use Rattle.body_meaning.specs.Bodies.{answer_of, body_of, bound_formals, cal
 unfoldable pub use Rattle.body_meaning.specs.Bodies.{calls_within}
 pub use Rattle.body_meaning.specs.Trying.{Pair, Trying, acts, ends, follow_pairs, follow_scan, looks_up, nothing_known, stop_at, stops}
 unfoldable pub use Rattle.body_meaning.specs.Trying.{pairs_of, run_scan, then_try, with_known}
-pub use Rattle.body_meaning.specs.Actions.{action_block, block_checked, block_of, body_of_action, checked, if_checked, is_table, names_table, need, others_checked, otherwise_checked, row_checked}
-pub use Rattle.body_meaning.specs.Transition.{about, about_left, action_done, arguments_for, fired, found_tried, is_among, is_for, is_short, is_stall_among, known, next_asked, next_state, permission_set, read_state, row_tried, state_answered, state_argument, state_by, state_set, table_short, try, waiting}
+pub use Rattle.body_meaning.specs.Actions.{Pick, action_block, action_names, block_names, block_of, body_of_action, counts_for, goes_along, if_names, is_for_buffer, is_table, is_to, names_in, names_table, need, of_check, of_enqueue, others_names, otherwise_names, place_among, row_names, send_count, sends_for}
+pub use Rattle.body_meaning.specs.Transition.{about, about_left, action_done, arguments_for, buffer_short, fired, found_tried, is_among, is_fewer, is_for, is_short, is_stall_among, known, lacks_room, next_asked, next_state, permission_set, read_state, row_tried, state_answered, state_argument, state_by, state_set, table_short, try, waiting}
 pub use Rattle.body_meaning.specs.Scan.{Scanned, after_port, by_outcome, by_try, left_idle, pairs_tried, port_block, port_done, port_tried, ports_tried, scan, unless_fired}
 pub use Rattle.body_meaning.specs.Round.{IsRoundOf}

@@ -2,7 +2,9 @@
 -- `enqueue` open. Of an assignment the right side is evaluated before its place. A call that changes its receiver, or the block of
 -- a `writeCallback`, finds that place once: first the receiver, then the arguments, then the write. `return` and `trigger` end the
 -- body, also from inside of blocks; out of an `enqueue` they send nothing. The latency of an `enqueue` is evaluated after its
--- block, and doesn't see the message. `check_allocate` is looked at before the actions of a transition, and does nothing itself.
+-- block, and doesn't see the message. An `enqueue` outside of an action is the fault `reference`, and no accepted protocol has one: what
+-- a transition sends is counted in its actions before they are done. `check_allocate` is looked at before the actions of a transition,
+-- and does nothing itself.
 use Rattle.std.specs.Prelude.{ℕ, pos, ℤ, ◌+◌, Option, None, Some, List, [], ◌∷◌, codes, cond, length}
 use Rattle.std.specs.Str.{bytes_eq}
 use Rattle.slicc_ast.specs.declared.tree.expression.Suffix.{Suffix, Method'}
@@ -96,11 +98,12 @@ module _ (s : Reading) (calls : Calls) where
 
   unfoldable pub enqueued : List ℕ → Option Expr → (Frame → Acting Ended) → Frame → Acting Ended
   enqueued port written block frame =
-      found own.Reference (port_named s.machine port)
+      found own.Reference frame.about
+      >>= (λ (a : About). found own.Reference (port_named s.machine port)
       >>= (λ buffer. found own.Reference (message_of s.machine buffer)
       >>= (λ structure. found own.Reference (new_message s structure)
       >>= (λ t. block (bind (codes "out_msg") t frame)
-      >>= (λ (e : Ended). sent buffer written (length frame.names) e.flow e.frame))))
+      >>= (λ (e : Ended). sent buffer written (length frame.names) e.flow e.frame)))))
 
   unfoldable pub stalled : List ℕ → Expr → Frame → Acting Ended
   stalled port address frame =

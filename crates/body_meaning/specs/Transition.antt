@@ -1,7 +1,9 @@
 -- What a `trigger` does: the state of its line is read, and then comes the first of these that applies. Where no written transition
 -- is for the state and the event, the fault is `invalid`. Where a table has fewer free lines than the actions have `check_allocate`
--- statements for it, or where `z_stall` is among the actions, the transition is stalled: it runs no action, and the controller wakes
--- in the next cycle. Else it is found which state it enters: the one that it names, the state before where it names none, and for `*`
+-- statements for it, where some receiver's free slots on a buffer of the controller's own or on a network are fewer than the actions'
+-- `enqueue` statements on it, or where `z_stall` is among the actions, the transition is stalled: it runs no action, and the controller
+-- wakes in the next cycle. Which receivers the messages will name doesn't matter, and a receiver's buffer without a size is never short
+-- of slots; that is this project's own rule. Else it is found which state it enters: the one that it names, the state before where it names none, and for `*`
 -- what the machine's `getNextState` answers on the address. Then its actions are done in order, then the state that it enters is set,
 -- and then the access permission, where the machine sets it. These two see the line's entry and TBE as the actions have left them, and
 -- `getNextState` sees all as it was before them. That it is asked of a transition that isn't stalled alone is this project's own rule,
@@ -17,7 +19,6 @@ use Rattle.ruby_value.specs.Prelude.{line_of}
 use Rattle.ruby_symbols.specs.declared.machine.MachineSymbols.{MachineSymbols}
 use Rattle.ruby_symbols.specs.declared.machine.Next.{Next}
 use Rattle.ruby_symbols.specs.declared.machine.Next.TheVariants.{To, Asked}
-use Rattle.ruby_symbols.specs.declared.machine.TableSymbol.{TableSymbol}
 use Rattle.ruby_symbols.specs.declared.machine.TransitionSymbol.{TransitionSymbol}
 use Rattle.ruby_symbols.specs.declared.states.StateArgument.{StateArgument}
 use Rattle.ruby_symbols.specs.declared.states.StateArgument.TheVariants.{Tbe, Entry, Address, State}
@@ -38,7 +39,7 @@ use Rattle.body_meaning.specs.Things.{value_in}
 use Rattle.body_meaning.specs.declared.frame.Known.{Known}
 use Rattle.body_meaning.specs.declared.frame.Tried.{Tried}
 use Rattle.body_meaning.specs.declared.frame.Tried.TheVariants.{Waits, Fires}
-use Rattle.body_meaning.specs.Actions.{body_of_action, need}
+use Rattle.body_meaning.specs.Actions.{body_of_action, need, send_count}
 use Rattle.body_meaning.specs.Trying.{Trying, stops, looks_up, stop_at, then_try, with_known}
 
 -- Written transitions.
@@ -103,10 +104,25 @@ abbrev pub table_short : (ℕ → ℕ) → ℕ → Acting Bool
 table_short need table =
     either (need table == 0) (ends false) (done (act.Free table) >>= (λ free. ends (nat_lt free (need table))))
 
--- some of these tables has, which have the numbers from this one on
-abbrev pub is_short : (ℕ → ℕ) → ℕ → List TableSymbol → Acting Bool
-is_short need table [] = ends false
-is_short need table (t ∷ ts) = table_short need table >>= (λ short. either short (ends true) (is_short need (table + 1) ts))
+abbrev pub is_fewer : Option ℕ → ℕ → Bool
+is_fewer None count = false
+is_fewer (Some free) count = nat_lt free count
+
+-- some receiver on the buffer of this number has fewer free slots than messages are sent there
+abbrev pub buffer_short : (ℕ → ℕ) → ℕ → Acting Bool
+buffer_short sent buffer =
+    either (sent buffer == 0) (ends false) (done (act.Slots buffer) >>= (λ free. ends (is_fewer free (sent buffer))))
+
+-- some of these is short, which have the numbers from this one on
+abbrev pub is_short : {X : Type 0} → (ℕ → Acting Bool) → ℕ → List X → Acting Bool
+is_short short number [] = ends false
+is_short short number (x ∷ xs) = short number >>= (λ is. either is (ends true) (is_short short (number + 1) xs))
+
+-- a table is short of lines for these actions, or a buffer is of slots
+abbrev pub lacks_room : Reading → List ℕ → Acting Bool
+lacks_room s actions =
+    is_short (table_short (need s actions)) 0 s.machine.tables
+    >>= (λ short. either short (ends true) (is_short (buffer_short (send_count s actions)) 0 s.machine.buffers))
 
 abbrev pub is_stall_among : List ℕ → Option ℕ → Bool
 is_stall_among actions None = false
@@ -139,7 +155,7 @@ fired s t state next row =
 -- of a written transition
 abbrev pub row_tried : Reading → Trigger → ℕ → TransitionSymbol → Acting Tried
 row_tried s t state row =
-    is_short (need s row.actions) 0 s.machine.tables
+    lacks_room s row.actions
     >>= (λ short. either short waiting
     (either (is_stall_among row.actions s.machine.stall) waiting
     (next_state s t.address state row.next >>= (λ next. fired s t state next row))))

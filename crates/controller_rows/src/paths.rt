@@ -1,5 +1,5 @@
 //! Routes between controllers of which each other one is as far away.
-ghost use Rattle.std.specs.Prelude.{◌≡◌, ◌<◌, length, map, IfOk};
+ghost use Rattle.std.specs.Prelude.{◌≡◌, ◌<◌, [], length, map, IfOk};
 ghost use Rattle.controller_rows.specs.Samples.{all_paths, network_order, paths_from};
 
 use ctl_face::{NoMemory, Routes, Seq};
@@ -54,12 +54,14 @@ fn receiving_buffers(
     Ok(Seq::of(all))
 }
 
-/// The routes between controllers, of which each has a row: which of its machine's buffers takes the messages of each network.
+/// The routes between controllers, of which each has a row: which of its machine's buffers takes the messages of each network. No buffer
+/// has a size.
 pub fn routes(alloc: Global, network: &Network, rows: &[&[Option<u16>]]) -> Result<Routes, NoMemory>
     ensures paths { IfOk result (λ r. r.paths ≡ all_paths network.now (length rows.now)) }
     ensures jitter { IfOk result (λ r. r.jitter ≡ network.now.jitter) }
     ensures ordered { IfOk result (λ r. r.ordered ≡ network_order network.now) }
     ensures receiving { IfOk result (λ r. r.receiving ≡ map (λ row. row.now) rows.now) }
+    ensures slots { IfOk result (λ r. r.slots ≡ []) }
 {
     let paths = all_paths(alloc, network, rows.len())?;
     let receiving = receiving_buffers(alloc, rows)?;
@@ -71,5 +73,6 @@ pub fn routes(alloc: Global, network: &Network, rows: &[&[Option<u16>]]) -> Resu
         jitter: network.jitter,
         ordered,
         receiving,
+        slots: Seq::new(alloc),
     })
 }

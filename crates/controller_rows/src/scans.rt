@@ -7,7 +7,7 @@ ghost use Rattle.controller_rows.specs.Going.{GoesOn, IsEndOf};
 
 use body_meaning::RoundEnd;
 use ctl_face::{NoMemory, Routes};
-use ctl_store::{Draft, Outcome, Store};
+use ctl_store::{Draft, Outcome, Scratch, Store};
 use protocol_meaning::fired_rounds_stay;
 use run_journal::StopAt;
 use slicc_interpreter::Interpreted;
@@ -57,7 +57,7 @@ pub fn scan(
     requires cycle { now ≤ last_cycle }
     ensures { IfOk result (IsEndOf store.now now) }
 {
-    let mut draft = Draft::on(alloc, store, routes, seed, now);
+    let mut draft = Draft::on(Scratch::new(alloc)?, store, routes, seed, now);
     match round(alloc, protocol, machine, &mut draft, fired, limit)? {
         RoundEnd::Fired(note) => Ok(ScanEnd::Fired(draft.seal(note))),
         RoundEnd::Idle => Ok(ScanEnd::Idle {

@@ -4,7 +4,7 @@ ghost use Rattle.ctl_face.specs.Prelude.{with_wake_up};
 ghost use Rattle.ctl_store.specs.Prelude.{ctl_of, outcome_acts};
 ghost use Rattle.controller_rows.specs.Prelude.{GoesOn, IsDone};
 
-use ctl_face::{Message, NoMemory, Routes, Seq, acts_between_scans_keep_what_holds};
+use ctl_face::{NoMemory, Parcel, Routes, Seq, acts_between_scans_keep_what_holds};
 use ctl_store::{Outcome, Store};
 use ruby_value::Delivery;
 
@@ -20,13 +20,13 @@ pub fn begin(store: &mut Store, routes: &Routes, now: u64)
     store.begin(now);
 }
 
-/// Makes room for what a scan has changed, and applies it. Answers the copies for other controllers.
+/// Makes room for what a scan has changed, and applies it. Answers what goes to other controllers.
 pub fn apply(
     store: &mut Store,
     routes: &Routes,
     now: u64,
     outcome: Outcome,
-) -> Result<Seq<Delivery<Message>>, NoMemory>
+) -> Result<Seq<Delivery<Parcel>>, NoMemory>
     requires goes { GoesOn store.old routes.now now }
     requires few { (ctl_of store.old).fired + 1 < 2 ^ 64 }
     requires done { IsDone store.old now outcome }

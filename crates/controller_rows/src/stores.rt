@@ -6,7 +6,7 @@ ghost use Rattle.ctl_store.specs.Prelude.{ctl_of, IsSameStore};
 ghost use Rattle.controller_rows.specs.Prelude.{GoesOn};
 
 use ctl_face::{
-    Fields, MachineSetup, Message, NoMemory, Routes, has_routes, is_machine,
+    Fields, MachineSetup, Message, NoMemory, Parcel, Routes, has_routes, is_machine,
     opening_controllers_fit,
 };
 use ctl_store::Store;
@@ -76,7 +76,7 @@ pub fn is_delivered(store: &mut Store, routes: &Routes, now: u64, m: Message) ->
     if store.room(1).is_err() {
         return false;
     }
-    store.arrive(m);
+    store.arrive(Parcel::Message(m));
     true
 }
 

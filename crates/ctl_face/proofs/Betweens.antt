@@ -1,6 +1,6 @@
 -- What holds of a controller holds after each act between its scans.
 use Rattle.std.proofs.Common.{◌≡◌, ℕ, ◌+◌, ◌*◌, ◌^◌, ◌<◌, ◌≤◌, Bool, true, false, IsTrue, IsSomeAnd, List, [], ◌∷◌, refl, arith, Option, None, Some, slice_get}
-use Rattle.std.proofs.lemmas.List.Elements.{All-head, All-tail}
+use Rattle.std.proofs.lemmas.List.Elements.{All-head, All-map, All-tail, All-weaker}
 use Rattle.std.specs.FinMap as map
 use Rattle.std.specs.List.{All}
 use Rattle.std.specs.Option.{option_map}
@@ -11,9 +11,12 @@ use Rattle.ruby_value.specs.declared.setup.BufferSetup.{BufferSetup}
 use Rattle.ruby_value.specs.declared.setup.MachineSetup.{MachineSetup}
 use Rattle.ruby_value.specs.Prelude.{has_kinds, rest_of, Requests, FitsRequests, IsRequest}
 use Rattle.ruby_value.proofs.Ordered.{AllPairs-tail}
-use Rattle.ctl_face.specs.Prelude.{DriverAct, Takes, Issues, IsDriverAct, after_driver_acts, at_cycle, with_one_fired, with_stop, with_arrival, with_request, with_wake_up, without_first_answer, Ctl, Fits, FitsSequencer, ScanFits, LocalView, copy_limit}
+use Rattle.ctl_face.specs.declared.parcel.Credit.{Credit}
+use Rattle.ctl_face.specs.declared.parcel.Lent.{Lent}
+use Rattle.ctl_face.specs.declared.parcel.Parcel.TheVariants as parcel
+use Rattle.ctl_face.specs.Prelude.{settled, with_parcel, with_parcel_arrival, DriverAct, Takes, Issues, IsDriverAct, after_driver_acts, at_cycle, with_one_fired, with_stop, with_arrival, with_request, with_wake_up, without_first_answer, Ctl, Fits, FitsSequencer, ScanFits, LocalView, copy_limit}
 use Rattle.ctl_face.proofs.Callbacks.{Outstanding}
-use Rattle.ctl_face.proofs.MailKept.{arrived_fits, mark_fits}
+use Rattle.ctl_face.proofs.MailKept.{arrived_fits, credit_fits, mark_fits}
 use Rattle.ctl_face.proofs.Maps.{insert_keeps}
 use Rattle.ctl_face.proofs.Marks.{IsStrictlyIncreasing-marks_from}
 
@@ -31,6 +34,11 @@ module _ (machine : MachineSetup) (me now : ℕ) where
     mail = mark_fits machine.buffers me now ctl.mail cycle fits.mail;
     sequencer = fits.sequencer;
   }
+
+  pub credit_keeps : (ctl : Ctl) (c : Credit) → Fits machine me ctl now → Fits machine me (with_parcel_arrival ctl (parcel.Credit c)) now
+  credit_keeps ctl c fits =
+      wake_up_keeps (with_parcel ctl (parcel.Credit c)) c.arrival
+      (record { tables = fits.tables; mail = credit_fits machine.buffers me now ctl.mail c fits.mail; sequencer = fits.sequencer })
 
   pub fired_keeps : (ctl : Ctl) → Fits machine me ctl now → Fits machine me (with_one_fired ctl) now
   fired_keeps ctl fits = record { tables = fits.tables; mail = fits.mail; sequencer = fits.sequencer }
@@ -102,6 +110,7 @@ later_fits machine me old now ctl later fits =
         copies = mail.copies;
         sent = (let before = mail.sent in omega arith);
         drawn = (let before = mail.drawn in omega arith);
+        lent = mail.lent;
       };
       sequencer = fits.sequencer;
     }
@@ -117,6 +126,8 @@ begun_keeps machine me old now ctl later fits = record {
     copies = omega arith;
     sent = more ctl.mail.sent old now ctl.mail.copies fits.mail.sent fits.mail.copies later;
     drawn = more ctl.mail.drawn old now ctl.mail.copies fits.mail.drawn fits.mail.copies later;
+    lent = All-map (λ (l : Lent). l.count ≤ ctl.mail.sent) (settled ctl.mail.credits now) ctl.mail.lent
+        (All-weaker (λ (l : Lent). l.count ≤ ctl.mail.sent) (λ (l : Lent). (settled ctl.mail.credits now l).count ≤ ctl.mail.sent) (λ l below. omega arith) ctl.mail.lent fits.mail.lent);
   };
   sequencer = fits.sequencer;
 }

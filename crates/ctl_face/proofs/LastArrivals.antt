@@ -1,5 +1,5 @@
 -- What copies make of the last arrivals, and of the sender's own inbox and marks.
-use Rattle.std.proofs.Common.{◌≡◌, ℕ, zero, suc, ◌<◌, ◌≤◌, Bool, true, false, cond, eqb, max, List, [], ◌∷◌, ◌++◌, length, refl, sym, ap, subst, ◌∙◌, arith, Some, unwrap_or, ⊎_elim}
+use Rattle.std.proofs.Common.{◌≡◌, ℕ, zero, suc, ◌<◌, Bool, true, false, cond, eqb, max, List, [], ◌∷◌, ◌++◌, length, refl, sym, ap, ◌∙◌, arith, Some, unwrap_or, ⊎_elim}
 use Rattle.std.proofs.lemmas.Bool.{cases_eq, eq-eqb, eqb-true, ne_eqb}
 use Rattle.std.proofs.lemmas.List.Elements.{filter-append}
 use Rattle.std.proofs.lemmas.List.Sums.{fold-append}
@@ -47,13 +47,6 @@ lasts_of_others (l ∷ networks) zero zero w apart = absurd (apart refl)
 lasts_of_others (l ∷ networks) zero (suc other) w apart = refl
 lasts_of_others (l ∷ networks) (suc network) zero w apart = refl
 lasts_of_others (l ∷ networks) (suc network) (suc other) w apart = lasts_of_others networks network other w (λ same. apart (ap suc same))
-
-pub no_less : (networks : List Lasts) (network receiver arrival q : ℕ) → last_at (lasts_on networks network) receiver ≤ arrival → last_at (lasts_on networks network) q ≤ last_at (lasts_on (with_last networks network receiver arrival) network) q
-no_less networks network receiver arrival q behind =
-    let before = lasts_on networks network in
-    at_written (λ (l : Lasts). last_at before q ≤ last_at l q) networks network (finite.insert before receiver arrival) (omega arith)
-    (⊎_elim (λ same. subst (λ (r : ℕ). last_at before r ≤ last_at (finite.insert before receiver arrival) r) (sym same) (let is = inserted_here before receiver arrival in omega arith))
-    (λ other. let is = inserted_elsewhere before receiver arrival q other in omega arith) (cases_eq q receiver))
 
 -- only the last arrival at the receiver is written
 pub not_moved : (networks : List Lasts) (network receiver arrival q : ℕ) → (q ≡ receiver → ⊥) → last_at (lasts_on (with_last networks network receiver arrival) network) q ≡ last_at (lasts_on networks network) q

@@ -4,7 +4,7 @@ use Rattle.std.proofs.lemmas.List.Elements.{All-nil, All-weaker}
 use Rattle.ruby_value.specs.declared.fault.Fault.{Fault}
 use Rattle.ruby_value.specs.declared.setup.MachineSetup.{MachineSetup}
 use Rattle.ruby_value.specs.declared.message.Sent.{Sent}
-use Rattle.ctl_face.specs.Prelude.{ActsFit, IsRouted, Ctl, InboxMessage, Fits, FitsMessage, IsLawful, ScanFits, last_cycle, IsMachine, Actor, LocalView, HasRoutes, scan_view}
+use Rattle.ctl_face.specs.Prelude.{ActsFit, IsCreditFor, IsRouted, Ctl, InboxMessage, Fits, FitsMessage, IsLawful, ScanFits, last_cycle, IsMachine, Actor, LocalView, HasRoutes, scan_view}
 use Rattle.ctl_face.proofs.Cases.{Good}
 use Rattle.ctl_face.proofs.Moved.{OwnBelow}
 
@@ -24,6 +24,7 @@ scan_begins machine actor now ctl lawful routes in_run fits = record {
       routed = All-nil (IsRouted machine actor.routes);
     },
     λ f. omega arith,
+    All-nil (IsCreditFor actor now),
   );
 }
 

@@ -18,9 +18,11 @@ pub mod Moved
 pub mod OneKey
 pub mod Opened
 pub mod OwnBuffers
+pub mod Parcels
 pub mod Reading
 pub mod Receivers
 pub mod Routed
+pub mod Credits
 pub mod SendAdds
 pub mod SendOrder
 pub mod Sendings

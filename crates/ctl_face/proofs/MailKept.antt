@@ -1,12 +1,14 @@
 -- What holds of a controller's mail holds after each act on it, and so does what holds of a lawful local.
-use Rattle.std.proofs.Common.{◌≡◌, ℕ, ℤ, ◌+◌, Bool, true, false, cond, List, map, All, IfSome, refl, Option, None, Some, Err, nat_abs, is_some}
+use Rattle.std.proofs.Common.{◌≡◌, ℕ, ℤ, ◌+◌, Bool, true, false, cond, eqb, List, map, All, IfSome, refl, Option, None, Some, Err, nat_abs, is_some}
 use Rattle.std.proofs.lemmas.Bool.{cond_both}
 use Rattle.ruby_value.specs.declared.fault.Fault.TheVariants.{Front, Latency}
 use Rattle.ruby_value.specs.declared.message.Message.{Message}
 use Rattle.ruby_value.specs.declared.message.MsgNo.{MsgNo}
 use Rattle.ruby_value.specs.declared.setup.BufferSetup.{BufferSetup}
 use Rattle.ruby_value.specs.Prelude.{same_number, IsLine}
-use Rattle.ctl_face.specs.Prelude.{Acts, again, at_front, after_front, InboxMessage, Mail, FitsMail, FitsMessage, NumbersAscend, ScanFits, without_message, is_latency, LocalView, mail_with_arrival, incoming_message, mail_with_mark, mail_without, pop, front_now, message_arriving_again, mail_with_recycled, recycle, mail_with_waiting, stall, message_waiting_under, is_under, message_waiting_no_longer, wake, wake_all, woken_mail, with_woken}
+use Rattle.std.specs.Prelude.{◌&&◌}
+use Rattle.ctl_face.specs.declared.parcel.Credit.{Credit}
+use Rattle.ctl_face.specs.Prelude.{Acts, Actor, with_credit, credit_for, had_slot, mail_after_dequeue, mail_if_credited, again, at_front, after_front, InboxMessage, Mail, FitsMail, FitsMessage, NumbersAscend, ScanFits, without_message, is_latency, LocalView, mail_with_arrival, incoming_message, mail_with_mark, mail_without, pop, front_now, message_arriving_again, mail_with_recycled, recycle, mail_with_waiting, stall, message_waiting_under, is_under, message_waiting_no_longer, wake, wake_all, woken_mail, with_woken}
 use Rattle.ctl_face.specs.Inbox.{with_message}
 use Rattle.ctl_face.proofs.Cases.{Good, good_ok, good_err}
 use Rattle.ctl_face.proofs.Inboxes.{ascend-with, all-with, ascend-without, all-without, ascend-map, all-map}
@@ -23,6 +25,7 @@ module _ (buffers : List BufferSetup) (me now : ℕ) where
     copies = fits.copies;
     sent = fits.sent;
     drawn = fits.drawn;
+    lent = fits.lent;
   }
 
   pub mark_fits : (mail : Mail) (cycle : ℕ) → FitsMail buffers me mail now → FitsMail buffers me (mail_with_mark mail cycle) now
@@ -34,6 +37,7 @@ module _ (buffers : List BufferSetup) (me now : ℕ) where
     copies = fits.copies;
     sent = fits.sent;
     drawn = fits.drawn;
+    lent = fits.lent;
   }
 
   -- a message comes in, and the controller is to look at it when it arrives
@@ -46,6 +50,27 @@ module _ (buffers : List BufferSetup) (me now : ℕ) where
   pub consumed_fits : (mail : Mail) (m : Message) → FitsMail buffers me mail now → FitsMail buffers me (mail_without mail m) now
   consumed_fits mail m fits =
       inbox_fits mail (without_message mail.inbox m.number) (ascend-without mail.inbox m.number fits.inbox_ascends) (all-without (FitsMessage buffers me mail.sent) mail.inbox m.number fits.messages) fits
+
+  -- a credit comes in, and the controller is to wake when it arrives
+  pub credit_fits : (mail : Mail) (c : Credit) → FitsMail buffers me mail now → FitsMail buffers me (record mail { credits = with_credit mail.credits c }) now
+  credit_fits mail c fits = record {
+    inbox_ascends = fits.inbox_ascends;
+    messages = fits.messages;
+    marks_ascend = fits.marks_ascend;
+    networks = fits.networks;
+    copies = fits.copies;
+    sent = fits.sent;
+    drawn = fits.drawn;
+    lent = fits.lent;
+  }
+
+  credited_fits : (b : Bool) (mail : Mail) (c : Credit) → FitsMail buffers me mail now → FitsMail buffers me (mail_if_credited b mail c) now
+  credited_fits true mail c fits = credit_fits (mail_with_mark mail c.arrival) c (mark_fits mail c.arrival fits)
+  credited_fits false mail c fits = fits
+
+  pub dequeued_fits : (actor : Actor) (buffer : ℕ) (mail : Mail) (m : Message) → FitsMail buffers me mail now → FitsMail buffers me (mail_after_dequeue actor buffer now m.number (mail_without mail m)) now
+  dequeued_fits actor buffer mail m fits =
+      credited_fits (had_slot actor buffer m.number && eqb m.number.sender actor.me) (mail_without mail m) (credit_for actor buffer now m.number).message (consumed_fits mail m fits)
 
   -- a change, where a test holds, that leaves the number and what fits
   pub tested_fits : (mail : Mail) (test : InboxMessage → Bool) (change : InboxMessage → InboxMessage)
@@ -93,7 +118,8 @@ front_lawful v told change (Some m) keeps lawful = good_ok ScanFits _ (mail_lawf
 
 pub pop_keeps : (v : LocalView) (buffer : ℕ) → ScanFits v → Good ScanFits (pop v buffer)
 pop_keeps v buffer lawful =
-    front_lawful v _ (mail_without v.ctl.mail) (front_now v buffer) (λ m. consumed_fits v.machine.buffers v.actor.me v.now v.ctl.mail m lawful.fits.mail) lawful
+    front_lawful v _ (λ (m : Message). mail_after_dequeue v.actor buffer v.now m.number (mail_without v.ctl.mail m)) (front_now v buffer)
+    (λ m. dequeued_fits v.machine.buffers v.actor.me v.now v.actor buffer v.ctl.mail m lawful.fits.mail) lawful
 
 pub stall_keeps : (v : LocalView) (buffer line : ℕ) → IsLine line → ScanFits v → Good ScanFits (stall v buffer line)
 stall_keeps v buffer line is lawful =

@@ -13,6 +13,7 @@ use Rattle.ruby_value.specs.declared.setup.MachineSetup.{MachineSetup}
 use Rattle.ruby_value.specs.declared.setup.TableSetup.{TableSetup}
 use Rattle.ruby_value.specs.declared.setup.TableSize.{TableSize}
 use Rattle.ruby_value.specs.declared.setup.TableSize.TheVariants as size
+use Rattle.ctl_face.specs.declared.parcel.Lent.{Lent}
 use Rattle.ctl_face.specs.Prelude.{InboxMessage, Fits, FitsLine, FitsLines, FitsMessage, FitsSequencer, FitsTableAt, IsOfSize, HasPlaces, IsMachine, IsTableSetup, network_count, opening_table, no_requests, opening_ctl}
 use Rattle.ruby_value.specs.Prelude.{IsLine, IsRequest, has_kinds, number_before}
 use Rattle.ctl_face.proofs.Callbacks.{Outstanding}
@@ -62,6 +63,7 @@ opening_fits machine me now lawful = record {
     copies = omega arith;
     sent = omega arith;
     drawn = omega arith;
+    lent = All-nil (λ (l : Lent). l.count ≤ 0);
   };
   sequencer = no_requests_fit machine.has_sequencer;
 }

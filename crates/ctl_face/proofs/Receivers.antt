@@ -11,7 +11,7 @@ use Rattle.ruby_value.specs.declared.value.Value.{Value}
 use Rattle.ruby_value.specs.Prelude.{has_kinds, network_of}
 use Rattle.ruby_value.specs.declared.message.Delivery.{Delivery}
 use Rattle.ruby_value.specs.declared.message.Message.{Message}
-use Rattle.ctl_face.specs.Prelude.{IsRouted, Mail, FitsReceiver, SendsFit, IsController, IsInRun, AgreeOnType, Actor, LocalView, TakesFields, AgreeOnTypes, AreNumbered, IsFrom, ReceivesFrom, NobodyElseReceives, RoutesFit, IsOfMachine, receiving_buffer, Sending, receivers_of, IsNetworkCopy, IsOwnCopy, SendAdds}
+use Rattle.ctl_face.specs.Prelude.{IsRouted, messages_among, Mail, FitsReceiver, SendsFit, IsController, IsInRun, AgreeOnType, Actor, LocalView, TakesFields, AgreeOnTypes, AreNumbered, IsFrom, ReceivesFrom, NobodyElseReceives, RoutesFit, IsOfMachine, receiving_buffer, Sending, IsNetworkCopy, IsOwnCopy, SendAdds}
 use Rattle.ctl_face.specs.declared.routes.Routes.{Routes}
 use Rattle.ctl_face.proofs.Lines.{All-found}
 use Rattle.ctl_face.proofs.Routed.{SentOn, sent_on}
@@ -96,7 +96,7 @@ module _ (machines : List MachineSetup) (ranges : List (ℕ × ℕ)) (m : Machin
   each_fits place.Local latency now mail sending at_place adds =
       all_for (IsOwnCopy s.ordered mail buffer latency fields now) (FitsReceiver machines ranges) actor.me (own_copy_fits s.ordered latency now mail) sending.copies adds.0.to adds.0.each
   each_fits (place.To network destination) latency now mail sending at_place adds =
-      All-weaker (IsNetworkCopy actor mail network latency (receivers_of destination fields) fields now) (FitsReceiver machines ranges) (λ c copy. routed_fits network c (ap network_of at_place) copy.buffer copy.fields_sent) sending.copies adds.0.each
+      All-weaker (IsNetworkCopy actor mail network latency fields now) (FitsReceiver machines ranges) (λ c copy. routed_fits network c (ap network_of at_place) copy.buffer copy.fields_sent) sending.copies adds.0.each
   each_fits (place.From network) latency now mail sending at_place adds =
       All-weaker (λ (c : Delivery Message). ⊥) (FitsReceiver machines ranges) (λ c no. absurd no) sending.copies adds.0.each
 
@@ -109,9 +109,9 @@ sends_fit machines ranges m actor here mail buffer latency fields now sending ta
         each_fits machines ranges m actor here buffer fields s there kinds s.place (nat_abs latency) now mail sending refl
         (send_adds m actor mail buffer latency fields now s sending there sent)
 
-pub posted_fit : (machines : List MachineSetup) (ranges : List (ℕ × ℕ)) (v : LocalView) → IsInRun machines ranges v → All (FitsReceiver machines ranges) v.acts.posted
+pub posted_fit : (machines : List MachineSetup) (ranges : List (ℕ × ℕ)) (v : LocalView) → IsInRun machines ranges v → All (FitsReceiver machines ranges) (messages_among v.acts.posted)
 posted_fit machines ranges v in_run =
-    All-weaker (IsRouted v.machine v.actor.routes) (FitsReceiver machines ranges) (λ c routed. one c (sent_on v.machine v.actor.routes c routed)) v.acts.posted in_run.lawful.acts.0.routed
+    All-weaker (IsRouted v.machine v.actor.routes) (FitsReceiver machines ranges) (λ c routed. one c (sent_on v.machine v.actor.routes c routed)) (messages_among v.acts.posted) in_run.lawful.acts.0.routed
   where
     one : (c : Delivery Message) → SentOn v.machine v.actor.routes c → FitsReceiver machines ranges c
     one c on = routed_fits machines ranges v.machine v.actor in_run.controller on.buffer c.message.fields on.on on.there on.takes on.network c on.to on.receives refl

@@ -1,10 +1,11 @@
 -- What a send adds: one copy for each receiver, and what this adds to the counts.
-use Rattle.std.proofs.Common.{◌≡◌, ℕ, ℤ, zero, suc, ◌+◌, ◌-◌, ◌≤◌, Bool, true, false, cond, eqb, not, max, List, [], ◌∷◌, ◌++◌, map, length, All, refl, sym, ap, subst, ◌∙◌, arith, append_assoc, length-append, Option, None, Some, Ok, Err, unwrap_or, is_some, nat_abs, slice_get, Contains, get_or, length-set, get_or-append-add}
-use Rattle.std.proofs.lemmas.Bool.{and_parts, not-false}
+use Rattle.std.proofs.Common.{◌≡◌, ℕ, ℤ, zero, suc, ◌+◌, ◌-◌, ◌<◌, Bool, true, false, cond, eqb, not, max, List, [], ◌∷◌, ◌++◌, map, length, All, refl, sym, ap, subst, ◌∙◌, arith, append_assoc, length-append, Option, None, Some, Ok, Err, unwrap_or, is_some, nat_abs, slice_get, Contains, get_or, length-set, get_or-append-add}
+use Rattle.std.proofs.lemmas.Bool.{and_parts, ltb-true, not-false}
 use Rattle.std.proofs.lemmas.List.{append-nil, get_or_append_left, map-append}
 use Rattle.std.proofs.lemmas.List.Elements.{All-nil, All-cons, All-push, Contains-append_left, Contains-push}
+use Rattle.std.proofs.lemmas.List.Sums.{fold-append}
 use Rattle.std.specs.Bool.{nat_lt}
-use Rattle.std.specs.List.{fold, list_all}
+use Rattle.std.specs.List.{AllPairs, fold, list_all}
 use Rattle.ruby_value.specs.declared.fault.Fault.TheVariants.{Latency, Route, Copies}
 use Rattle.ruby_value.specs.declared.message.Message.{Message}
 use Rattle.ruby_value.specs.declared.message.MsgNo.{MsgNo}
@@ -13,10 +14,15 @@ use Rattle.ruby_value.specs.declared.setup.BufferPlace.TheVariants as place
 use Rattle.ruby_value.specs.declared.setup.BufferSetup.{BufferSetup}
 use Rattle.ruby_value.specs.declared.setup.MachineSetup.{MachineSetup}
 use Rattle.ruby_value.specs.declared.value.Value.{Value}
+use Rattle.ruby_value.specs.declared.value.Value.TheVariants.{Dest}
 use Rattle.ruby_value.specs.declared.message.Delivery.{Delivery}
-use Rattle.ctl_face.specs.Prelude.{Mail, Lasts, last_at, lasts_on, with_last, is_latency, Actor, mail_with_delivery, is_ordered, path_to, receiving_buffer, Sending, copy_limit, has_jitter, local_arrival, local_copy, network_arrival, next_copy, no_copies, receivers_of, send, sending_from, sending_on, with_network_copy, AddsCopies, AllDiffer, IsNetworkCopy, IsOwnCopy, NetworkLasts, OwnLasts, SendAdds, arrival_after, mail_with_own}
-use Rattle.ruby_value.specs.Prelude.{numbers_from}
-use Rattle.ctl_face.proofs.LastArrivals.{inbox_after, inserted_elsewhere, inserted_here, lasts_after, marks_after, no_lasts, no_less, not_moved}
+use Rattle.ctl_face.specs.declared.parcel.Lent.{Lent}
+use Rattle.ctl_face.specs.declared.routes.Routes.{Routes}
+use Rattle.ctl_face.specs.Prelude.{lent_after, lent_after_all, Mail, Lasts, last_at, lasts_on, with_last, is_latency, Actor, mail_with_delivery, is_ordered, path_to, receiving_buffer, Sending, copy_limit, has_jitter, local_arrival, local_copy, network_arrival, next_copy, no_copies, receivers_of, send, sending_from, sending_on, with_network_copy, AddsCopies, IsNetworkCopy, IsOwnCopy, NetworkLasts, OwnLasts, SendAdds, arrival_after, mail_with_own}
+use Rattle.ruby_value.specs.Prelude.{numbers_from, with_member}
+use Rattle.ruby_value.proofs.Ordered.{AllPairs-insert, AllPairs-nil}
+use Rattle.ctl_face.specs.Send.{members_of}
+use Rattle.ctl_face.proofs.LastArrivals.{inbox_after, inserted_elsewhere, inserted_here, lasts_after, marks_after, no_lasts, not_moved}
 use Rattle.ctl_face.proofs.Cases.{Good, good_ok, good_err, good_cond}
 use Rattle.pcg_words.specs.Prelude.{below}
 
@@ -39,34 +45,58 @@ delivered_own : (mine : Bool) (mail : Mail) (m : Message) → (mail_with_deliver
 delivered_own true mail m = refl
 delivered_own false mail m = refl
 
+delivered_credits : (mine : Bool) (mail : Mail) (m : Message) → (mail_with_delivery mine mail m).credits ≡ mail.credits
+delivered_credits true mail m = refl
+delivered_credits false mail m = refl
+
+lent_push : (routes : Routes) (first lent : List Lent) (copies : List (Delivery Message)) (c : Delivery Message) → lent ≡ lent_after_all routes first copies
+    → lent_after routes lent c.receiver c.message.buffer ≡ lent_after_all routes first (copies ++ c ∷ [])
+lent_push routes first lent copies c same =
+    ap (λ (l : List Lent). lent_after routes l c.receiver c.message.buffer) same
+    ∙ sym (fold-append (λ (l : List Lent) (x : Delivery Message). lent_after routes l x.receiver x.message.buffer) first copies (c ∷ []))
+
 same_word : (b : Bool) (seed me bound drawn sent d s n : ℕ) → sent ≡ s + n → drawn ≡ d + cond b n 0 → cond b (below seed me drawn bound) 0 ≡ cond b (below seed me (d + (sent - s)) bound) 0
 same_word true seed me bound drawn sent d s n sent_is drawn_is = let same : drawn ≡ d + (sent - s) = omega arith in ap (λ (k : ℕ). below seed me k bound) same
 same_word false seed me bound drawn sent d s n sent_is drawn_is = refl
 
--- a copy that is raised to the last arrival isn't earlier than one that is raised to an earlier one, and comes at the same time
--- where that is the same
-not_before : (ordered : Bool) (sum due last first arrival : ℕ) → arrival ≡ cond ordered (max sum last) sum → sum ≡ due → first ≤ last → arrival_after ordered due first ≤ arrival
-not_before true sum due last first arrival is same above = omega arith
-not_before false sum due last first arrival is same above = omega arith
-
+-- a copy that is raised to the last arrival comes at the same time where that is the same
 exactly : (ordered : Bool) (sum due last first arrival : ℕ) → arrival ≡ cond ordered (max sum last) sum → sum ≡ due → (ordered ≡ true → last ≡ first) → arrival ≡ arrival_after ordered due first
 exactly true sum due last first arrival is same alone = is ∙ ap (max sum) (alone refl) ∙ ap (λ (k : ℕ). max k first) same
 exactly false sum due last first arrival is same alone = is ∙ same
 
--- of receivers that differ, the next isn't among those that are done
-not_among : (done rest : List ℕ) (receiver : ℕ) → AllDiffer (done ++ receiver ∷ rest) → Contains done receiver → ⊥
-not_among done rest receiver differ there =
+-- the receivers of a message ascend
+abbrev Ascend : List ℕ → Type 0
+Ascend receivers = AllPairs (λ (a b : ℕ). a < b) receivers
+
+ascend_with : (members : List ℕ) (receivers : List ℕ) → Ascend receivers → Ascend (fold with_member receivers members)
+ascend_with [] receivers ascends = ascends
+ascend_with (m ∷ members) receivers ascends =
+    ascend_with members (with_member receivers m)
+    (AllPairs-insert (λ (a b : ℕ). a < b) (λ a b c first second. omega arith) (λ a. nat_lt a m) (λ b. nat_lt m b) m (λ a. ltb-true a m) (λ b. ltb-true m b) receivers ascends)
+
+members_ascend : (o : Option Value) → Ascend (members_of o)
+members_ascend (Some (Dest members)) = ascend_with members [] (AllPairs-nil (λ (a b : ℕ). a < b))
+members_ascend _ = AllPairs-nil (λ (a b : ℕ). a < b)
+
+receivers_ascend : (destination : Option ℕ) (fields : List Value) → Ascend (receivers_of destination fields)
+receivers_ascend None fields = AllPairs-nil (λ (a b : ℕ). a < b)
+receivers_ascend (Some destination) fields = members_ascend (slice_get fields destination)
+
+-- of receivers that ascend, the next isn't among those that are done
+not_among : (done rest : List ℕ) (receiver : ℕ) → Ascend (done ++ receiver ∷ rest) → Contains done receiver → ⊥
+not_among done rest receiver ascends there =
     let within = there.1 in
     let long = length-append done (receiver ∷ rest) in
     let more : length (receiver ∷ rest) ≡ length rest + 1 = omega arith in
     let before : get_or (done ++ receiver ∷ rest) there.0 receiver ≡ receiver = get_or_append_left done (receiver ∷ rest) receiver there.0 within ∙ there.2 in
     let zero_more : length done + 0 ≡ length done = omega arith in
     let here : get_or (done ++ receiver ∷ rest) (length done) receiver ≡ receiver = ap (λ (k : ℕ). get_or (done ++ receiver ∷ rest) k receiver) (sym zero_more) ∙ get_or-append-add done (receiver ∷ rest) 0 receiver in
-    differ there.0 (length done) receiver within (omega arith) (before ∙ sym here)
+    let less = ascends there.0 (length done) receiver within (omega arith) in
+    omega arith
 
-module _ (actor : Actor) (start : Mail) (network latency : ℕ) (receivers : List ℕ) (fields : List Value) (now : ℕ) where
+module _ (actor : Actor) (start : Mail) (network latency : ℕ) (receivers : List ℕ) (ascends : Ascend receivers) (fields : List Value) (now : ℕ) where
   abbrev IsCopy : Delivery Message → Type 0
-  IsCopy = IsNetworkCopy actor start network latency receivers fields now
+  IsCopy = IsNetworkCopy actor start network latency fields now
 
   -- after copies for some receivers
   record Done (done : List ℕ) (s : Sending) : Type 0 where
@@ -78,7 +108,8 @@ module _ (actor : Actor) (start : Mail) (network latency : ℕ) (receivers : Lis
     drawn : s.mail.drawn ≡ start.drawn + cond (has_jitter actor) (length done) 0
     inbox : s.mail.inbox ≡ (mail_with_own actor.me start s.copies).inbox
     marks : s.mail.marks ≡ (mail_with_own actor.me start s.copies).marks
-    risen : (q : ℕ) → last_at (lasts_on start.network_last network) q ≤ last_at (lasts_on s.mail.network_last network) q
+    lent : s.mail.lent ≡ lent_after_all actor.routes start.lent s.copies
+    credits : s.mail.credits ≡ start.credits
     others : is_ordered actor.routes network ≡ true → (q : ℕ) → (Contains done q → ⊥) → last_at (lasts_on s.mail.network_last network) q ≡ last_at (lasts_on start.network_last network) q
     networks : length s.mail.network_last ≡ length start.network_last
     lasts : NetworkLasts (is_ordered actor.routes network) network start s.mail s.copies
@@ -86,15 +117,6 @@ module _ (actor : Actor) (start : Mail) (network latency : ℕ) (receivers : Lis
   one_drawn : (b : Bool) (drawn n : ℕ) → drawn ≡ start.drawn + cond b n 0 → cond b (drawn + 1) drawn ≡ start.drawn + cond b (n + 1) 0
   one_drawn true drawn n is = omega arith
   one_drawn false drawn n is = is
-
-  lasts_kept : (b : Bool) (networks : List Lasts) (receiver sum q : ℕ) → last_at (lasts_on start.network_last network) q ≤ last_at (lasts_on networks network) q
-      → last_at (lasts_on start.network_last network) q ≤ last_at (lasts_on (cond b (with_last networks network receiver (cond b (max sum (last_at (lasts_on networks network) receiver)) sum)) networks) network) q
-  lasts_kept true networks receiver sum q before =
-      let last = last_at (lasts_on networks network) receiver in
-      let behind : last ≤ max sum last = omega arith in
-      let more = no_less networks network receiver (max sum last) q behind in
-      omega arith
-  lasts_kept false networks receiver sum q before = before
 
   others_kept : (b : Bool) (networks : List Lasts) (done : List ℕ) (receiver arrival : ℕ) → ((q : ℕ) → (Contains done q → ⊥) → last_at (lasts_on networks network) q ≡ last_at (lasts_on start.network_last network) q)
       → (q : ℕ) → (Contains (done ++ receiver ∷ []) q → ⊥) → last_at (lasts_on (cond b (with_last networks network receiver arrival) networks) network) q ≡ last_at (lasts_on start.network_last network) q
@@ -111,7 +133,7 @@ module _ (actor : Actor) (start : Mail) (network latency : ℕ) (receivers : Lis
   named None wrong = absurd (cc wrong)
   named (Some b) is = refl
 
-  one_done : (done : List ℕ) (s : Sending) (receiver : ℕ) → is_some (receiving_buffer actor.routes receiver network) ≡ true → (AllDiffer receivers → Contains done receiver → ⊥) → Done done s → Done (done ++ receiver ∷ []) (with_network_copy actor network latency fields now s receiver)
+  one_done : (done : List ℕ) (s : Sending) (receiver : ℕ) → is_some (receiving_buffer actor.routes receiver network) ≡ true → (Contains done receiver → ⊥) → Done done s → Done (done ++ receiver ∷ []) (with_network_copy actor network latency fields now s receiver)
   one_done done s receiver routed apart before =
       let arrival = network_arrival actor s.mail network latency now receiver in
       let buffer = unwrap_or (receiving_buffer actor.routes receiver network) 0 in
@@ -136,15 +158,15 @@ module _ (actor : Actor) (start : Mail) (network latency : ℕ) (receivers : Lis
           buffer = named (receiving_buffer actor.routes receiver network) routed;
           fields_sent = refl;
           not_recycled = refl;
-          no_earlier = not_before ordered _ _ last first arrival refl due (before.risen receiver);
-          exact = λ differ. exactly ordered _ _ last first arrival refl due (λ is. before.others is receiver (apart (differ is)));
+          arrival = exactly ordered _ _ last first arrival refl due (λ is. before.others is receiver apart);
         });
         sent = (let here = before.sent in omega arith);
         copies_counted = (let here = before.copies_counted in omega arith);
         drawn = rw (same_drawn, longer) (one_drawn (has_jitter actor) s.mail.drawn (length done) before.drawn);
         inbox = inbox_after actor.me start s.mail s.copies copy before.inbox;
         marks = marks_after actor.me start s.mail s.copies copy before.marks;
-        risen = λ q. rw same_lasts (lasts_kept ordered s.mail.network_last receiver _ q (before.risen q));
+        lent = lent_push actor.routes start.lent s.mail.lent s.copies copy before.lent;
+        credits = delivered_credits is_mine s.mail copy.message ∙ before.credits;
         others = λ is q among. rw same_lasts (others_kept ordered s.mail.network_last done receiver arrival (before.others is) q among);
         networks = rw same_lasts (networks_kept ordered s.mail.network_last receiver arrival before.networks);
         lasts = lasts_after network start ordered s.mail s.copies copy _ before.networks refl before.lasts after
@@ -158,7 +180,7 @@ module _ (actor : Actor) (start : Mail) (network latency : ℕ) (receivers : Lis
       let both = and_parts (is_some (receiving_buffer actor.routes receiver network)) (list_all (λ r. is_some (receiving_buffer actor.routes r network)) members) routed in
       subst (λ (rs : List ℕ). Done rs (fold (with_network_copy actor network latency fields now) s (receiver ∷ members))) (append_assoc done (receiver ∷ []) members)
       (all_done members (done ++ receiver ∷ []) (with_network_copy actor network latency fields now s receiver) both.1 (whole ∙ sym (append_assoc done (receiver ∷ []) members))
-      (one_done done s receiver both.0 (λ differ. not_among done members receiver (subst AllDiffer whole differ)) before))
+      (one_done done s receiver both.0 (not_among done members receiver (subst Ascend whole ascends)) before))
 
   none_drawn : (b : Bool) → start.drawn ≡ start.drawn + cond b 0 0
   none_drawn true = omega arith
@@ -174,7 +196,8 @@ module _ (actor : Actor) (start : Mail) (network latency : ℕ) (receivers : Lis
     drawn = none_drawn (has_jitter actor);
     inbox = refl;
     marks = refl;
-    risen = λ q. omega arith;
+    lent = refl;
+    credits = refl;
     others = λ _ q _. refl;
     networks = refl;
     lasts = no_lasts network start (is_ordered actor.routes network);
@@ -185,12 +208,12 @@ module _ (actor : Actor) (start : Mail) (network latency : ℕ) (receivers : Lis
       AddsCopies actor start receivers (cond (has_jitter actor) (length receivers) 0) IsCopy sending × NetworkLasts (is_ordered actor.routes network) network start sending.mail sending.copies)
   network_adds routed =
       let done = all_done receivers [] (no_copies start) routed refl none_done in (
-        record { to = done.to; numbers = done.numbers; each = done.each; sent = done.sent; copies_counted = done.copies_counted; drawn = done.drawn; inbox = done.inbox; marks = done.marks },
+        record { to = done.to; numbers = done.numbers; each = done.each; sent = done.sent; copies_counted = done.copies_counted; drawn = done.drawn; inbox = done.inbox; marks = done.marks; lent = done.lent; credits = done.credits },
         done.lasts,
       )
 
 pub nothing_added : (actor : Actor) (mail : Mail) → AddsCopies actor mail [] 0 (λ c. ⊥) (no_copies mail)
-nothing_added actor mail = record { to = refl; numbers = refl; each = All-nil (λ c. ⊥); sent = omega arith; copies_counted = omega arith; drawn = omega arith; inbox = refl; marks = refl }
+nothing_added actor mail = record { to = refl; numbers = refl; each = All-nil (λ c. ⊥); sent = omega arith; copies_counted = omega arith; drawn = omega arith; inbox = refl; marks = refl; lent = refl; credits = refl }
 
 own_lasts : (ordered : Bool) (actor : Actor) (mail : Mail) (buffer latency : ℕ) (fields : List Value) (now : ℕ)
     → (let sending = local_copy actor ordered mail buffer latency fields now in OwnLasts ordered buffer mail sending.mail sending.copies)
@@ -227,6 +250,8 @@ own_added actor ordered mail buffer latency fields now =
       drawn = same ∙ (omega arith);
       inbox = inbox_after actor.me mail mail [] copy refl;
       marks = marks_after actor.me mail mail [] copy refl;
+      lent = refl;
+      credits = delivered_credits (eqb actor.me actor.me) mail copy.message;
     }
 
 on_adds : (p : BufferPlace) (ordered : Bool) (actor : Actor) (mail : Mail) (buffer latency : ℕ) (fields : List Value) (now : ℕ) → Good (SendAdds p ordered actor mail buffer latency fields now) (sending_on p ordered actor mail buffer latency fields now)
@@ -243,7 +268,7 @@ on_adds (place.To network destination) ordered actor mail buffer latency fields 
     let many = nat_lt copy_limit (mail.copies + length members) in
     good_cond P (not routed) (Err Route) (cond many (Err Copies) (Ok sending)) (λ _. good_err P Route)
     (λ are_routed. good_cond P many (Err Copies) (Ok sending) (λ _. good_err P Copies)
-    (λ _. good_ok P sending (network_adds actor mail network latency members fields now (not-false routed are_routed))))
+    (λ _. good_ok P sending (network_adds actor mail network latency members (receivers_ascend destination fields) fields now (not-false routed are_routed))))
 on_adds (place.From network) ordered actor mail buffer latency fields now =
     good_ok (SendAdds (place.From network) ordered actor mail buffer latency fields now) (no_copies mail) (nothing_added actor mail, refl)
 

@@ -7,7 +7,7 @@ use Rattle.ruby_value.specs.declared.setup.MachineSetup.{MachineSetup}
 use Rattle.ruby_value.proofs.Contained.{Contains-cons_cases}
 use Rattle.ruby_value.specs.declared.message.Delivery.{Delivery}
 use Rattle.ruby_value.specs.declared.message.Message.{Message}
-use Rattle.ctl_face.specs.Prelude.{Mail, last_at, lasts_on, Actor, is_ordered, path_to, receivers_of, IsNetworkCopy, SendAdds, arrival_after, copies_to, jitter_of, latest, IsSentTo, SendsKeepOrder}
+use Rattle.ctl_face.specs.Prelude.{Mail, last_at, lasts_on, Actor, is_ordered, path_to, IsNetworkCopy, SendAdds, arrival_after, copies_to, jitter_of, latest, IsSentTo, SendsKeepOrder}
 use Rattle.ctl_face.proofs.SendAdds.{send_adds}
 
 latest_from : (cycle : ℕ) (copies : List (Delivery Message)) → cycle ≤ latest cycle copies
@@ -39,11 +39,11 @@ sends_keep_order network machine actor mail order first second later one keeps t
     let ToNext : (d : BufferPlace) → IsSentTo network machine actor later second → Type 0 = λ d w. SendAdds d w.on.ordered actor later w.buffer (nat_abs w.latency) w.fields w.now second in
     let added = subst (λ (d : BufferPlace). To d one) one.to_network (send_adds machine actor mail one.buffer one.latency one.fields one.now one.on first one.there one.sent) in
     let next = subst (λ (d : BufferPlace). ToNext d two) two.to_network (send_adds machine actor later two.buffer two.latency two.fields two.now two.on second two.there two.sent) in
-    let copy = All-contains (IsNetworkCopy actor later network (nat_abs two.latency) (receivers_of two.destination two.fields) two.fields two.now) second.copies b next.0.each in_second in
+    let copy = All-contains (IsNetworkCopy actor later network (nat_abs two.latency) two.fields two.now) second.copies b next.0.each in_second in
     let last = last_at (lasts_on later.network_last network) b.receiver in
     let kept = keeps b.receiver in
     let written = added.1.in_order order.ordered order.within b.receiver in
     let above = latest_above (last_at (lasts_on mail.network_last network) b.receiver) b.receiver first.copies a in_first same in
     let raised = raised_to (is_ordered actor.routes network) (two.now + nat_abs two.latency + path_to actor.routes actor.me b.receiver + jitter_of actor later b) last order.ordered in
-    let no_earlier = copy.no_earlier in
+    let arrival = copy.arrival in
     omega arith

@@ -1,11 +1,11 @@
 -- What holds of a lawful controller holds after a send.
-use Rattle.std.proofs.Common.{◌≡◌, ℕ, ℤ, ◌+◌, ◌*◌, ◌≤◌, Bool, true, false, cond, not, eqb, List, [], ◌∷◌, length, All, IsTrue, IfSome, IsSomeAnd, refl, sym, ap, subst, ◌∙◌, arith, Option, None, Some, Result, Ok, Err, nat_abs, is_some, slice_get, unwrap_or}
+use Rattle.std.proofs.Common.{◌≡◌, ℕ, ℤ, ◌+◌, ◌*◌, ◌≤◌, Bool, true, false, cond, not, eqb, List, [], ◌∷◌, ◌++◌, map as map_list, length, All, IsTrue, IfSome, IsSomeAnd, refl, sym, ap, subst, ◌∙◌, arith, Option, None, Some, Result, Ok, Err, nat_abs, is_some, slice_get, unwrap_or}
 use Rattle.std.proofs.lemmas.Bool.{and_parts, cond_both, eqb-true, ltb-false, not-false}
 use Rattle.std.proofs.lemmas.List.{length-set}
-use Rattle.std.proofs.lemmas.List.Elements.{All-weaker}
+use Rattle.std.proofs.lemmas.List.Elements.{All-map, All-push, All-weaker}
 use Rattle.std.specs.Bool.{nat_lt}
 use Rattle.std.specs.FinMap as map
-use Rattle.std.specs.List.{fold, list_all}
+use Rattle.std.specs.List.{fold, list_all, list_any}
 use Rattle.std.specs.Option.{option_map}
 use Rattle.ruby_value.specs.declared.fault.Fault.{Fault}
 use Rattle.ruby_value.specs.declared.fault.Fault.TheVariants.{Latency, Route, Copies}
@@ -16,7 +16,8 @@ use Rattle.ruby_value.specs.declared.setup.BufferSetup.{BufferSetup}
 use Rattle.ruby_value.specs.declared.setup.MachineSetup.{MachineSetup}
 use Rattle.ruby_value.specs.declared.value.Value.{Value}
 use Rattle.ruby_value.specs.Prelude.{has_kinds, network_of}
-use Rattle.ctl_face.specs.Prelude.{InboxMessage, Mail, enqueue, after_sending, FitsMail, FitsMessage, ScanFits, AgreeOnType, IsMachine, network_count, Lasts, with_last, is_latency, Actor, LocalView, mail_with_delivery, incoming_message, TakesFields, message_kinds, IsFrom, ReceivesFrom, receiving_buffer, is_ordered, Sending, send, sending_from, sending_on, copy_limit, receivers_of, mail_with_copy, next_copy, no_copies, has_jitter, after_network_copy, network_arrival, with_network_copy, local_arrival, local_copy}
+use Rattle.ctl_face.specs.declared.parcel.Lent.{Lent}
+use Rattle.ctl_face.specs.Prelude.{is_lent_of, one_more, with_lent, lent_after, size_of, InboxMessage, Mail, enqueue, after_sending, FitsMail, FitsMessage, ScanFits, AgreeOnType, IsMachine, network_count, Lasts, with_last, is_latency, Actor, LocalView, mail_with_delivery, incoming_message, TakesFields, message_kinds, IsFrom, ReceivesFrom, receiving_buffer, is_ordered, Sending, send, sending_from, sending_on, copy_limit, receivers_of, mail_with_copy, next_copy, no_copies, has_jitter, after_network_copy, network_arrival, with_network_copy, local_arrival, local_copy}
 use Rattle.ctl_face.proofs.Cases.{Good, good_ok, good_err, good_cond}
 use Rattle.ctl_face.proofs.FieldKinds.{same_kinds_take}
 use Rattle.ctl_face.proofs.Lines.{All-found}
@@ -33,9 +34,24 @@ module _ (buffers : List BufferSetup) (actor : Actor) (now : ℕ) where
   older_fits : (sent : ℕ) (m : InboxMessage) → FitsMessage buffers actor.me sent m → FitsMessage buffers actor.me (sent + 1) m
   older_fits sent m fits = record { fields = fits.fields; own_number = λ own. let before = fits.own_number own in omega arith; line = fits.line }
 
+  -- one slot more in use, where the copy's buffer has a size
+  lent_more : (lent : List Lent) (receiver buffer sent : ℕ) → All (λ (l : Lent). l.count ≤ sent) lent → All (λ (l : Lent). l.count ≤ sent + 1) (lent_after actor.routes lent receiver buffer)
+  lent_more lent receiver buffer sent few =
+      let Few : List Lent → Type 0 = All (λ (l : Lent). l.count ≤ sent + 1) in
+      let as_before = All-weaker (λ (l : Lent). l.count ≤ sent) (λ (l : Lent). l.count ≤ sent + 1) (λ l below. omega arith) lent few in
+      let one : Lent = record { receiver = receiver; buffer = buffer; count = 1 } in
+      let raised = All-map (λ (l : Lent). l.count ≤ sent + 1) (one_more receiver buffer) lent
+      (All-weaker (λ (l : Lent). l.count ≤ sent) (λ (l : Lent). (one_more receiver buffer l).count ≤ sent + 1)
+      (λ l below. cond_both (is_lent_of receiver buffer l) (record l { count = l.count + 1 }) l (λ (m : Lent). m.count ≤ sent + 1) (λ _. omega arith) (λ _. omega arith)) lent few) in
+      let pushed : Few (lent ++ one ∷ []) = All-push (λ (l : Lent). l.count ≤ sent + 1) lent one as_before (omega arith) in
+      cond_both (is_some (size_of actor.routes receiver buffer)) (with_lent lent receiver buffer) lent Few
+      (λ _. cond_both (list_any (is_lent_of receiver buffer) lent) (map_list (one_more receiver buffer) lent) (lent ++ one ∷ []) Few (λ _. raised) (λ _. pushed))
+      (λ _. as_before)
+
   -- one copy more: its number is given away
-  numbered_fits : (mail : Mail) → mail.copies + 1 ≤ copy_limit → FitsMail buffers actor.me mail now → FitsMail buffers actor.me (record mail { sent = mail.sent + 1; copies = mail.copies + 1 }) now
-  numbered_fits mail room fits = record {
+  numbered_fits : (mail : Mail) (receiver buffer : ℕ) → mail.copies + 1 ≤ copy_limit → FitsMail buffers actor.me mail now
+      → FitsMail buffers actor.me (record mail { sent = mail.sent + 1; copies = mail.copies + 1; lent = lent_after actor.routes mail.lent receiver buffer }) now
+  numbered_fits mail receiver buffer room fits = record {
     inbox_ascends = fits.inbox_ascends;
     messages = All-weaker (FitsMessage buffers actor.me mail.sent) (FitsMessage buffers actor.me (mail.sent + 1)) (older_fits mail.sent) mail.inbox fits.messages;
     marks_ascend = fits.marks_ascend;
@@ -43,12 +59,14 @@ module _ (buffers : List BufferSetup) (actor : Actor) (now : ℕ) where
     copies = room;
     sent = (let before = fits.sent in omega arith);
     drawn = (let before = fits.drawn in omega arith);
+    lent = lent_more mail.lent receiver buffer mail.sent fits.lent;
   }
 
-  counted_fits : (mail : Mail) (mine : Bool) (m : Message) → mail.copies + 1 ≤ copy_limit → (mine ≡ true → FitsMessage buffers actor.me (mail.sent + 1) (incoming_message m)) → FitsMail buffers actor.me mail now
-      → FitsMail buffers actor.me (record (mail_with_delivery mine mail m) { sent = mail.sent + 1; copies = mail.copies + 1 }) now
-  counted_fits mail true m room own fits = arrived_fits buffers actor.me now (record mail { sent = mail.sent + 1; copies = mail.copies + 1 }) m (own refl) (numbered_fits mail room fits)
-  counted_fits mail false m room own fits = numbered_fits mail room fits
+  counted_fits : (mail : Mail) (mine : Bool) (m : Message) (receiver : ℕ) → mail.copies + 1 ≤ copy_limit → (mine ≡ true → FitsMessage buffers actor.me (mail.sent + 1) (incoming_message m)) → FitsMail buffers actor.me mail now
+      → FitsMail buffers actor.me (record (mail_with_delivery mine mail m) { sent = mail.sent + 1; copies = mail.copies + 1; lent = lent_after actor.routes mail.lent receiver m.buffer }) now
+  counted_fits mail true m receiver room own fits =
+      arrived_fits buffers actor.me now (record mail { sent = mail.sent + 1; copies = mail.copies + 1; lent = lent_after actor.routes mail.lent receiver m.buffer }) m (own refl) (numbered_fits mail receiver m.buffer room fits)
+  counted_fits mail false m receiver room own fits = numbered_fits mail receiver m.buffer room fits
 
   delivered_drawn : (mine : Bool) (mail : Mail) (m : Message) → (mail_with_delivery mine mail m).drawn ≡ mail.drawn
   delivered_drawn true mail m = refl
@@ -65,6 +83,7 @@ module _ (buffers : List BufferSetup) (actor : Actor) (now : ℕ) where
     copies = fits.copies;
     sent = fits.sent;
     drawn = few;
+    lent = fits.lent;
   }
 
   drawn_fits : (mail : Mail) (network receiver arrival : ℕ) → mail.drawn + 1 ≤ copy_limit * now + mail.copies → FitsMail buffers actor.me mail now → FitsMail buffers actor.me (after_network_copy actor mail network receiver arrival) now
@@ -84,7 +103,7 @@ module _ (buffers : List BufferSetup) (actor : Actor) (now : ℕ) where
       let buffer = unwrap_or (receiving_buffer actor.routes receiver network) 0 in
       let copy = next_copy actor s.mail receiver buffer arrival fields in
       let is_mine = eqb receiver actor.me in
-      let once_more = counted_fits s.mail is_mine copy.message room (λ is. own_fits s.mail.sent buffer arrival fields (mine (eqb-true receiver actor.me is))) fits in
+      let once_more = counted_fits s.mail is_mine copy.message receiver room (λ is. own_fits s.mail.sent buffer arrival fields (mine (eqb-true receiver actor.me is))) fits in
       let before = fits.drawn in
       let same = delivered_drawn is_mine s.mail copy.message in
       drawn_fits (mail_with_copy actor s.mail copy) network receiver arrival (omega arith) once_more
@@ -137,7 +156,7 @@ module _ (machine : MachineSetup) (lawful : IsMachine machine) (actor : Actor) (
       let takes = takes_fields machine.buffers buffer s fields is here in
       let copy = next_copy actor mail actor.me buffer arrival fields in
       let b = nat_lt copy_limit (mail.copies + 1) in
-      let once_more = λ (few : b ≡ false). counted_fits machine.buffers actor now mail (eqb actor.me actor.me) copy.message (ltb-false copy_limit (mail.copies + 1) few) (λ _. own_fits machine.buffers actor now mail.sent buffer arrival fields takes) fits in
+      let once_more = λ (few : b ≡ false). counted_fits machine.buffers actor now mail (eqb actor.me actor.me) copy.message actor.me (ltb-false copy_limit (mail.copies + 1) few) (λ _. own_fits machine.buffers actor now mail.sent buffer arrival fields takes) fits in
       good_cond SendingFits b (Err Copies) (Ok sending) (λ _. good_err SendingFits Copies)
       (λ few. good_ok SendingFits sending
       (kept_fits machine.buffers actor now (mail_with_copy actor mail copy) (cond s.ordered (map.insert mail.local_last buffer arrival) mail.local_last) (mail_with_copy actor mail copy).network_last (mail_with_copy actor mail copy).drawn

@@ -2,10 +2,11 @@
 -- sending and consuming. The copies' notes have the controller's next numbers, from the first that was free as the scan began;
 -- the controller has counted them as sent, and as copies of this cycle; each arrives after this cycle. The posted copies are
 -- those that aren't for the controller itself. Each is for a receiver that its message names, in the buffer that takes a network's
--- messages there, and has fields like those of the messages of one of the machine's buffers to this network. Of the messages in
+-- messages there, and has fields like those of the messages of one of the machine's buffers to this network. A posted credit is for
+-- another controller, of a buffer of this one, and arrives in the next cycle. Of the messages in
 -- the inbox, those that the controller sent itself among them, numbers alone are told, and nothing is said of marks, of drawn
--- words or of last arrivals: what an act does to these is said by its own definition.
-use Rattle.std.specs.Prelude.{◌≡◌, ◌<◌, ◌+◌, ◌==◌, ◌&&◌, ℕ, Bool, false, Option, None, Some, List, not, map, filter, length, count_by, IsTrue}
+-- words, of last arrivals or of slots in use: what an act does to these is said by its own definition.
+use Rattle.std.specs.Prelude.{◌≡◌, ◌<◌, ◌+◌, ◌==◌, ◌&&◌, ℕ, Bool, false, List, not, map, filter, length, count_by, IsTrue}
 use Rattle.std.specs.List.{All, list_any}
 use Rattle.ruby_value.specs.declared.message.MsgNo.{MsgNo}
 use Rattle.ruby_value.specs.declared.setup.BufferPlace.{BufferPlace}
@@ -18,15 +19,12 @@ use Rattle.ruby_value.specs.declared.message.Message.{Message}
 use Rattle.ruby_value.specs.declared.message.Sent.{Sent}
 use Rattle.ctl_face.specs.Acts.{sent_of}
 use Rattle.ctl_face.specs.Ctl.{InboxMessage}
+use Rattle.ctl_face.specs.declared.parcel.Credit.{Credit}
 use Rattle.ctl_face.specs.declared.routes.Routes.{Routes}
 use Rattle.ctl_face.specs.LocalView.{Actor, LocalView}
-use Rattle.ctl_face.specs.Routing.{receiving_buffer}
+use Rattle.ctl_face.specs.Parcels.{credits_among, messages_among}
+use Rattle.ctl_face.specs.Routing.{controller_count, is_buffer, receiving_buffer}
 use Rattle.ctl_face.specs.Send.{receivers_of}
-
--- whether it is this buffer
-abbrev pub is_buffer : ℕ → Option ℕ → Bool
-is_buffer buffer None = false
-is_buffer buffer (Some b) = b == buffer
 
 -- From a buffer of this sort the copy comes to its receiver: the buffer is to a network, the message names the receiver in the field that
 -- the buffer has for it, and the copy is in the buffer that takes the network's messages there.
@@ -67,7 +65,16 @@ MailMoves before after taken notes posted =
     → count_by f (numbers_in before) + count_by f (map (λ (n : Sent). n.number) notes)
     ≡ count_by f taken + count_by f (map (λ (c : Delivery Message). c.message.number) posted) + count_by f (numbers_in after)
 
+-- a credit for a message that another controller sent to this one
+pub record IsCreditFor (actor : Actor) (now : ℕ) (d : Delivery Credit) : Type 0 where
+  pub to_other : ¬ (d.receiver ≡ actor.me)
+  pub to_controller : d.receiver < controller_count actor.routes
+  pub of_this : d.message.receiver ≡ actor.me
+  pub arrival : d.message.arrival ≡ now + 1
+
 abbrev pub ActsFit : LocalView → Type 0
 ActsFit v =
-    SentFits v.machine v.actor v.now v.start.mail.sent v.ctl.mail.sent v.start.mail.copies v.ctl.mail.copies v.acts.sent v.acts.posted
-    × MailMoves v.start.mail.inbox v.ctl.mail.inbox v.acts.consumed v.acts.sent v.acts.posted
+    let posted = messages_among v.acts.posted in
+    SentFits v.machine v.actor v.now v.start.mail.sent v.ctl.mail.sent v.start.mail.copies v.ctl.mail.copies v.acts.sent posted
+    × MailMoves v.start.mail.inbox v.ctl.mail.inbox v.acts.consumed v.acts.sent posted
+    × All (IsCreditFor v.actor v.now) (credits_among v.acts.posted)

@@ -1,7 +1,8 @@
--- What happens to a controller between its scans: a message of another actor arrives, a mark is set, a cycle begins, a
+-- What happens to a controller between its scans: a message of another actor or a credit arrives, a mark is set, a cycle begins, a
 -- transition has fired, the controller stops, a request comes into its sequencer, and a finished answer is taken from there.
--- A cycle begins without the marks before it, and with nothing counted in it yet. A controller without a sequencer takes no
--- request and has no answer. Requests and answers are gem5's sequencers'; marks, counts and stops are this project's own.
+-- A cycle begins without the marks before it, with nothing counted in it yet, and with the slots free again whose credits have
+-- arrived by then. A controller without a sequencer takes no request and has no answer. Requests and answers are gem5's sequencers';
+-- marks, counts, credits and stops are this project's own.
 use Rattle.std.specs.Prelude.{ℕ, ◌+◌, true, List, Option}
 use Rattle.std.specs.List.{fold}
 use Rattle.std.specs.Option.{option_and_then, option_map}
@@ -10,7 +11,10 @@ use Rattle.ruby_value.specs.declared.asked.Asked.{Asked}
 use Rattle.ruby_value.specs.declared.message.Message.{Message}
 use Rattle.ruby_value.specs.Prelude.{marks_from}
 use Rattle.ruby_value.specs.Requests as requests
-use Rattle.ctl_face.specs.Ctl.{Ctl}
+use Rattle.ctl_face.specs.declared.parcel.Parcel.{Parcel}
+use Rattle.ctl_face.specs.declared.parcel.Parcel.TheVariants as parcel
+use Rattle.ctl_face.specs.Credits.{credits_from, lent_from, with_credit}
+use Rattle.ctl_face.specs.Ctl.{Ctl, Mail}
 use Rattle.ctl_face.specs.Mailing.{mail_with_mark, mail_with_message}
 
 -- a message in the inbox, and a cycle at which the controller must wake; an arrival is both
@@ -23,9 +27,29 @@ with_wake_up ctl cycle = record ctl { mail = mail_with_mark ctl.mail cycle }
 abbrev pub with_arrival : Ctl → Message → Ctl
 with_arrival ctl m = with_wake_up (with_message ctl m) m.arrival
 
+-- what comes from another controller, and when it arrives
+abbrev pub with_parcel : Ctl → Parcel → Ctl
+with_parcel ctl (parcel.Message m) = with_message ctl m
+with_parcel ctl (parcel.Credit c) = record ctl { mail = record ctl.mail { credits = with_credit ctl.mail.credits c } }
+
+abbrev pub parcel_arrival : Parcel → ℕ
+parcel_arrival (parcel.Message m) = m.arrival
+parcel_arrival (parcel.Credit c) = c.arrival
+
+abbrev pub with_parcel_arrival : Ctl → Parcel → Ctl
+with_parcel_arrival ctl p = with_wake_up (with_parcel ctl p) (parcel_arrival p)
+
 -- as the cycle begins
+abbrev pub mail_at_cycle : Mail → ℕ → Mail
+mail_at_cycle mail now = record mail {
+  marks = marks_from now mail.marks;
+  copies = 0;
+  lent = lent_from now mail.credits mail.lent;
+  credits = credits_from now mail.credits;
+}
+
 abbrev pub at_cycle : Ctl → ℕ → Ctl
-at_cycle ctl now = record ctl { mail = record ctl.mail { marks = marks_from now ctl.mail.marks; copies = 0 }; fired = 0 }
+at_cycle ctl now = record ctl { mail = mail_at_cycle ctl.mail now; fired = 0 }
 
 -- one transition more has fired in this cycle
 abbrev pub with_one_fired : Ctl → Ctl

@@ -1,12 +1,15 @@
 -- A controller as plain data: its tables, the states of its built-in map, its mail, its sequencer's requests and answers, and
 -- whether it has stopped. Its mail is the messages that were sent to it and not consumed, the cycles at which it must wake,
--- and the counts that its sends go by.
--- Numbers of messages, marks and counts are this project's own; tables and buffers are those of gem5's Ruby.
+-- the counts that its sends go by, and the slots that its messages have in use in buffers with a size, with the credits that it has
+-- got back for some.
+-- Numbers of messages, marks, counts and credits are this project's own; tables and buffers are those of gem5's Ruby.
 use Rattle.std.specs.Prelude.{ℕ, Bool, List, Option}
 use Rattle.std.specs.Ordering.{nat_cmp}
 use Rattle.std.specs.FinMap as map
 use Rattle.ruby_value.specs.declared.message.Message.{Message}
 use Rattle.ruby_value.specs.Prelude.{Requests}
+use Rattle.ctl_face.specs.declared.parcel.Credit.{Credit}
+use Rattle.ctl_face.specs.declared.parcel.Lent.{Lent}
 use Rattle.ctl_face.specs.Lasts.{Lasts}
 use Rattle.ctl_face.specs.Table.{Table}
 
@@ -19,6 +22,8 @@ pub record InboxMessage : Type 0 where
 -- that the controller has sent, `drawn` the words that it has drawn, and `copies` the copies that it has sent in this cycle.
 -- `network_last` has, by virtual network, for each receiver the arrival of the last copy to it, where the network is ordered,
 -- and `local_last` the greatest arrival of what it has sent into each of its own ordered buffers; what isn't there counts as 0.
+-- `lent` counts, by receiver and buffer, the messages that it has sent there, where the buffer has a size, less the credits that had
+-- arrived as a cycle began; `credits` are those that came since then. Credits.antt says what they come to.
 pub record Mail : Type 0 where
   pub inbox : List InboxMessage
   pub marks : List ℕ
@@ -27,6 +32,8 @@ pub record Mail : Type 0 where
   pub copies : ℕ
   pub network_last : List Lasts
   pub local_last : Lasts
+  pub lent : List Lent
+  pub credits : List Credit
 
 -- Tables stand by their number within the machine. `states` has the lines whose state was set. `sequencer` is there where the
 -- machine has one. `fired` counts the transitions that fired in this cycle.

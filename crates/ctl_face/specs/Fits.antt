@@ -1,6 +1,7 @@
 -- What holds of a controller of a machine at each moment of a run, of its tables, its mail and its sequencer: they are those of
 -- the machine, with fields of the declared kinds; each line in them is one; its own messages have numbers that it has
--- given; and its counts are at most what it may send in the cycles up to now. Each step of a controller keeps this.
+-- given; its counts are at most what it may send in the cycles up to now; and at no receiver it has more slots of a buffer in use than
+-- messages sent. Each step of a controller keeps this.
 -- A local is lawful where this holds of its controller as the scan began and now, its machine and routes are as they may be, and
 -- its acts are as `ActsFit` says.
 -- It doesn't say that the values of enumerations are members, nor that machine numbers are those of controllers.
@@ -13,6 +14,7 @@ use Rattle.ruby_value.specs.declared.value.Value.{Value}
 use Rattle.ruby_value.specs.declared.kind.Kind.{Kind}
 use Rattle.ruby_value.specs.Prelude.{Line, IsCache, IsLine, FitsRequests, Requests, has_kinds, number_before}
 use Rattle.ctl_face.specs.ActsFit.{ActsFit}
+use Rattle.ctl_face.specs.declared.parcel.Lent.{Lent}
 use Rattle.ctl_face.specs.Ctl.{Ctl, InboxMessage, Mail}
 use Rattle.ctl_face.specs.IsMachine.{IsMachine, network_count}
 use Rattle.ctl_face.specs.OfMachine.{TakesFields}
@@ -86,6 +88,7 @@ pub record FitsMail (buffers : List BufferSetup) (me : ℕ) (mail : Mail) (now :
   pub copies : mail.copies ≤ copy_limit
   pub sent : mail.sent ≤ copy_limit * now + mail.copies
   pub drawn : mail.drawn ≤ copy_limit * now + mail.copies
+  pub lent : All (λ (l : Lent). l.count ≤ mail.sent) mail.lent
 
 pub record Fits (machine : MachineSetup) (me : ℕ) (ctl : Ctl) (now : ℕ) : Type 0 where
   pub tables : FitsTables machine ctl.tables ctl.states

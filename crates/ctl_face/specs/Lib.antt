@@ -6,6 +6,7 @@ pub mod AtFront
 pub mod Avail
 pub mod Between
 pub mod Callback
+pub mod Credits
 pub mod Ctl
 pub mod Deallocate
 pub mod Does
@@ -28,6 +29,7 @@ pub mod Mailing
 pub mod MarksAhead
 pub mod OfMachine
 pub mod Opening
+pub mod Parcels
 pub mod Places
 pub mod Pop
 pub mod Ready
@@ -40,6 +42,7 @@ pub mod SendAdds
 pub mod SendOrder
 pub mod Served
 pub mod Set
+pub mod Slots
 pub mod Stall
 pub mod State
 pub mod Table

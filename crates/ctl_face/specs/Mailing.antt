@@ -1,8 +1,10 @@
--- What comes into a controller's mail: a message, which goes into the inbox, and a mark, which is a cycle at which it must wake. A
--- message that arrives is both, with a mark for its arrival. That each arrival sets a mark is this project's own rule.
+-- What comes into a controller's mail: a message, which goes into the inbox, a credit, and a mark, which is a cycle at which it must
+-- wake. A message or a credit that arrives sets a mark for its arrival, too, which is this project's own rule.
 use Rattle.std.specs.Prelude.{ℕ, Bool, true, false, None}
 use Rattle.ruby_value.specs.declared.message.Message.{Message}
 use Rattle.ruby_value.specs.Prelude.{with_mark}
+use Rattle.ctl_face.specs.declared.parcel.Credit.{Credit}
+use Rattle.ctl_face.specs.Credits.{with_credit}
 use Rattle.ctl_face.specs.Ctl.{InboxMessage, Mail}
 use Rattle.ctl_face.specs.Inbox.{with_message}
 
@@ -18,6 +20,9 @@ mail_with_message mail m = record mail { inbox = with_message mail.inbox (incomi
 
 abbrev pub mail_with_arrival : Mail → Message → Mail
 mail_with_arrival mail m = mail_with_mark (mail_with_message mail m) m.arrival
+
+abbrev pub mail_with_credit : Mail → Credit → Mail
+mail_with_credit mail c = record (mail_with_mark mail c.arrival) { credits = with_credit mail.credits c }
 
 -- a copy comes to its sender only where that is the receiver
 abbrev pub mail_with_delivery : Bool → Mail → Message → Mail

@@ -1,5 +1,5 @@
 -- A controller as a run begins: empty caches and TBE tables, directories whose lines have their default fields, the
--- parameters with their values, no messages, no marks, no requests, and nothing counted yet.
+-- parameters with their values, no messages, no marks, no requests, no slots in use, and nothing counted yet.
 use Rattle.std.specs.Prelude.{Bool, true, false, List, [], Option, None, Some, map, replicate}
 use Rattle.std.specs.FinMap.{empty}
 use Rattle.ruby_value.specs.declared.value.Value.{Value}
@@ -31,6 +31,8 @@ no_mail = record {
   copies = 0;
   network_last = replicate network_count empty;
   local_last = empty;
+  lent = [];
+  credits = [];
 }
 
 abbrev pub opening_ctl : MachineSetup → Ctl

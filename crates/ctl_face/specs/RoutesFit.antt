@@ -5,9 +5,10 @@
 -- itself takes no cycle. A network keeps order where some buffer of the protocol is called ordered, as it may also where the
 -- topology says so. The buffer that takes a network's messages at a controller is the one of its machine from that network, if there
 -- is one, so a machine has at most one; a number that is no controller's takes none. Buffers on one network have messages of the
--- same fields, whatever their machines. The numbering, and the limits of controllers, paths and jitter, are this project's own.
+-- same fields, whatever their machines. A buffer with a size is one that a controller takes messages from, and has one size. The
+-- numbering, and the limits of controllers, paths, jitter and sizes, are this project's own.
 use Rattle.std.specs.Prelude.{◌≡◌, ◌<◌, ◌≤◌, ◌+◌, ℕ, true, List, [], ◌∷◌, Option, None, Some, length, slice_get, IsTrue, IfSome, IsSomeAnd}
-use Rattle.std.specs.List.{All}
+use Rattle.std.specs.List.{All, AllPairs}
 use Rattle.std.specs.Option.{option_flatten}
 use Rattle.ruby_value.specs.declared.setup.BufferPlace.TheVariants as place
 use Rattle.ruby_value.specs.declared.setup.BufferPlace.{BufferPlace}
@@ -17,7 +18,8 @@ use Rattle.ctl_face.specs.declared.routes.Routes.{Routes}
 use Rattle.ctl_face.specs.IsMachine.{AgreeOnType, network_count}
 use Rattle.ruby_value.specs.Prelude.{network_of}
 use Rattle.ctl_face.specs.OfMachine.{buffer_place}
-use Rattle.ctl_face.specs.Routing.{is_ordered, path_to, receiving_buffer}
+use Rattle.ctl_face.specs.Routing.{is_ordered, path_to, receiving_buffer, slot_buffer, slot_receiver, slot_size}
+use Rattle.ctl_face.specs.Served.{receives}
 
 abbrev pub longest_path : ℕ
 longest_path = 126000
@@ -28,11 +30,15 @@ most_jitter = 1000
 abbrev pub most_controllers : ℕ
 most_controllers = 64
 
+abbrev pub most_slots : ℕ
+most_slots = 65536
+
 pub record AreWithinLimits (routes : Routes) : Type 0 where
   pub controllers : length routes.receiving ≤ most_controllers
   pub all_networks : length routes.ordered ≡ network_count
   pub paths : All (All (λ path. path ≤ longest_path)) routes.paths
   pub jitter : routes.jitter ≤ most_jitter
+  pub sizes : All (λ s. slot_size s ≤ most_slots) routes.slots
 
 -- the network of a buffer that is called ordered keeps order
 abbrev pub KeepsOrder : Routes → BufferSetup → Type 0
@@ -98,6 +104,19 @@ abbrev pub AtControllers : (machines : List MachineSetup) (ranges : List (ℕ ×
 AtControllers machines ranges P =
     (machine controller : ℕ) → IsOfMachine ranges machine controller → IfSome (slice_get machines machine) (λ m. P m controller)
 
+-- messages are taken from the buffer: it is the machine's own, or from a network
+abbrev pub IsReceiving : MachineSetup → ℕ → Type 0
+IsReceiving machine buffer = IsTrue (receives (buffer_place machine buffer))
+
+-- a buffer with a size is one of a controller, and messages are taken from it
+pub record IsSlot (machines : List MachineSetup) (ranges : List (ℕ × ℕ)) (s : ℕ × ℕ × ℕ) : Type 0 where
+  pub machine : ℕ
+  pub of_machine : IsOfMachine ranges machine (slot_receiver s)
+  pub receiving : IsSomeAnd (slice_get machines machine) (λ (m : MachineSetup). IsReceiving m (slot_buffer s))
+
+abbrev pub IsSameBuffer : (a b : ℕ × ℕ × ℕ) → Type 0
+IsSameBuffer a b = (slot_receiver a ≡ slot_receiver b) × (slot_buffer a ≡ slot_buffer b)
+
 pub record RoutesFit (machines : List MachineSetup) (ranges : List (ℕ × ℕ)) (routes : Routes) : Type 0 where
   pub total : ℕ
   pub numbers : AreRanges machines ranges total
@@ -109,6 +128,8 @@ pub record RoutesFit (machines : List MachineSetup) (ranges : List (ℕ × ℕ))
   pub one_type : All (λ m. All (AgreeOnTypes m) machines) machines
   pub receivers : AtControllers machines ranges (λ m controller. ReceivesFrom m controller routes)
   pub named : AtControllers machines ranges (λ m controller. NamesBuffers m.buffers controller routes)
+  pub slots : All (IsSlot machines ranges) routes.slots
+  pub one_size : AllPairs (λ a b. ¬ (IsSameBuffer a b)) routes.slots
 
 -- a number that is no controller's takes no messages, which follows
 abbrev pub NobodyElseReceives : (ranges : List (ℕ × ℕ)) → Routes → Type 0

@@ -1,8 +1,9 @@
 -- A send: the sender's mail after it and the copies, or the fault. One copy goes into a buffer of the sender's
 -- own. On a buffer to a network one copy goes to each receiver that the message names, in increasing number; each has
 -- a number of its own and a jitter drawn for it alone, where the network has jitter. A copy arrives after the latency,
--- the path and the jitter; where order is kept, no copy arrives before the one sent last from here to there.
--- Latencies, networks and order are gem5's; numbers, draws, and order kept by raising an arrival are this project's own.
+-- the path and the jitter; where order is kept, no copy arrives before the one sent last from here to there. Each copy to a buffer with a
+-- size takes a slot there, and none is refused for want of one: that is asked before the actions of a transition.
+-- Latencies, networks and order are gem5's; numbers, draws, slots, and order kept by raising an arrival are this project's own.
 use Rattle.std.specs.Prelude.{ℕ, ℤ, Bool, false, Option, None, Some, List, [], ◌∷◌, ◌++◌, ◌+◌, ◌==◌, Result, Ok, Err, not, max, nat_abs, nat_lt, length, slice_get, is_some, unwrap_or, if◌then◌else◌}
 use Rattle.std.specs.FinMap as map
 use Rattle.std.specs.List.{fold, list_all}
@@ -16,12 +17,14 @@ use Rattle.ruby_value.specs.declared.value.Value.{Value}
 use Rattle.ruby_value.specs.declared.value.Value.TheVariants.{Dest}
 use Rattle.ruby_value.specs.declared.message.Delivery.{Delivery}
 use Rattle.ruby_value.specs.declared.message.Message.{Message}
+use Rattle.ruby_value.specs.Prelude.{with_member}
 use Rattle.ctl_face.specs.Ctl.{Mail}
 use Rattle.ctl_face.specs.Lasts.{last_at, lasts_on, with_last}
 use Rattle.ctl_face.specs.Latency.{is_latency}
 use Rattle.ctl_face.specs.LocalView.{Actor}
 use Rattle.ctl_face.specs.Mailing.{mail_with_delivery}
 use Rattle.ctl_face.specs.Routing.{receiving_buffer, path_to, is_ordered}
+use Rattle.ctl_face.specs.Slots.{lent_after}
 use Rattle.pcg_words.specs.Prelude.{below}
 
 -- the sender's mail after some copies, and these copies in the order of their numbers
@@ -33,9 +36,9 @@ pub record Sending : Type 0 where
 abbrev pub copy_limit : ℕ
 copy_limit = 4096
 
--- the controllers of a value, as it lists them; a set of controllers ascends
+-- the controllers of a set of controllers, in increasing number, each once
 abbrev pub members_of : Option Value → List ℕ
-members_of (Some (Dest members)) = members
+members_of (Some (Dest members)) = fold with_member [] members
 members_of _ = []
 
 -- those that the field of a message names, if it has one for them
@@ -59,7 +62,11 @@ next_copy actor mail receiver buffer arrival fields = record {
 -- the sender's mail after one copy more, which it may have sent to itself
 abbrev pub mail_with_copy : Actor → Mail → Delivery Message → Mail
 mail_with_copy actor mail copy =
-    record (mail_with_delivery (copy.receiver == actor.me) mail copy.message) { sent = mail.sent + 1; copies = mail.copies + 1 }
+    record (mail_with_delivery (copy.receiver == actor.me) mail copy.message) {
+      sent = mail.sent + 1;
+      copies = mail.copies + 1;
+      lent = lent_after actor.routes mail.lent copy.receiver copy.message.buffer;
+    }
 
 -- the jitter of the next network copy, for which a word is drawn where the network has any
 abbrev pub has_jitter : Actor → Bool

@@ -155,6 +155,9 @@ fn are_within_limits(routes: &Routes) -> bool
     if !routes.paths.iter().all(|from| are_short(from)) {
         return false;
     }
+    if !routes.slots.iter().all(|slot| slot.2 <= 65_536) {
+        return false;
+    }
     routes.receiving.len() <= 64 && routes.ordered.len() == 16 && routes.jitter <= 1000
 }
 

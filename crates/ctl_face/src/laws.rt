@@ -8,8 +8,10 @@ ghost use Rattle.ruby_value.specs.declared.value.Block.{Block};
 ghost use Rattle.ruby_value.specs.declared.value.Ref.{Ref};
 ghost use Rattle.ruby_value.specs.declared.value.Value.{Value};
 ghost use Rattle.ctl_face.specs.declared.message_at.MessageAt.{MessageAt};
+ghost use Rattle.ctl_face.specs.declared.parcel.Credit.{Credit};
+ghost use Rattle.ctl_face.specs.declared.parcel.Parcel.TheVariants as parcel;
 ghost use Rattle.ctl_face.specs.declared.routes.Routes.{Routes};
-ghost use Rattle.ctl_face.specs.Prelude.{again, allocate, probe, DriverAct, IsDriverAct, after_driver_acts, at_cycle, with_one_fired, with_stop, with_arrival, with_request, with_wake_up, without_first_answer, read_back, write_back, Ctl, Mail, deallocate, enqueue, Fits, IsLawful, last_cycle, FitsReceiver, SendsFit, get, message_at, SameScan, IsController, IsInRun, IsMachine, AlwaysKeeps, Keeps, KeepsFits, KeepsWhere, Actor, LocalView, TakesFields, opening_ctl, pop, required_front, recycle, HasRoutes, NobodyElseReceives, RoutesFit, scan_view, Sending, copy_limit, send, HasStates, TakesField, TakesMessage, set, stall, set_state, touch, wake, wake_all};
+ghost use Rattle.ctl_face.specs.Prelude.{again, allocate, probe, DriverAct, IsDriverAct, after_driver_acts, at_cycle, with_one_fired, with_stop, with_arrival, with_request, with_wake_up, without_first_answer, read_back, write_back, Ctl, Mail, deallocate, messages_among, with_parcel_arrival, enqueue, Fits, IsLawful, last_cycle, FitsReceiver, SendsFit, get, message_at, SameScan, IsController, IsInRun, IsMachine, AlwaysKeeps, Keeps, KeepsFits, KeepsWhere, Actor, LocalView, TakesFields, opening_ctl, pop, required_front, recycle, HasRoutes, NobodyElseReceives, RoutesFit, scan_view, Sending, copy_limit, send, HasStates, TakesField, TakesMessage, set, stall, set_state, touch, wake, wake_all};
 ghost use Rattle.ruby_value.specs.Prelude.{IsLine, IsRequest};
 
 /// A controller as a run begins fits its machine, in that cycle and in each later one.
@@ -39,7 +41,8 @@ pub fn routes_fit_each_controller()
 /// fields like its own; and so is each that a lawful local of a run has posted.
 pub fn copies_fit_their_receivers()
     ensures posted { (machines : List MachineSetup) (ranges : List (ℕ × ℕ)) (v : LocalView)
-        → IsInRun machines ranges v → All (FitsReceiver machines ranges) v.acts.posted }
+        → IsInRun machines ranges v
+        → All (FitsReceiver machines ranges) (messages_among v.acts.posted) }
     ensures sent { (machines : List MachineSetup) (ranges : List (ℕ × ℕ)) (m : MachineSetup)
         (actor : Actor)
         → IsController machines ranges m actor → SendsFit machines ranges m actor }
@@ -70,14 +73,15 @@ pub fn message_calls_keep_what_holds()
     ensures again { AlwaysKeeps again }
 {}
 
-/// What holds of each controller of a machine holds after each act between its scans: the arrival of another actor's message,
-/// a mark, the beginning of a later cycle, one transition more that fired, a stop, a request, an answer that is taken, and so all
-/// that a driver does at its turn, which leaves the mail as it is. It holds in later cycles, too, where nothing happens to the
-/// controller.
+/// What holds of each controller of a machine holds after each act between its scans: the arrival of another actor's message or
+/// of a credit, a mark, the beginning of a later cycle, one transition more that fired, a stop, a request, an answer that is taken,
+/// and so all that a driver does at its turn, which leaves the mail as it is. It holds in later cycles, too, where nothing happens to
+/// the controller.
 pub fn acts_between_scans_keep_what_holds()
     ensures arrival { (machine : MachineSetup) (me now : ℕ) (ctl : Ctl) (m : Message)
         → TakesFields machine.buffers m.buffer m.fields → ¬ (m.number.sender ≡ me)
         → Fits machine me ctl now → Fits machine me (with_arrival ctl m) now }
+    ensures credit { (c : Credit) → KeepsFits (λ ctl. with_parcel_arrival ctl (parcel.Credit c)) }
     ensures wake_up { (cycle : ℕ) → KeepsFits (λ ctl. with_wake_up ctl cycle) }
     ensures later { (machine : MachineSetup) (me old now : ℕ) (ctl : Ctl) → old ≤ now
         → Fits machine me ctl old → Fits machine me ctl now }

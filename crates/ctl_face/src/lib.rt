@@ -7,6 +7,7 @@ mod laws;
 mod local;
 mod mail_laws;
 mod message_at;
+mod parcel;
 mod routes;
 mod serving;
 mod trouble;
@@ -21,9 +22,10 @@ pub use laws::{
 pub use local::Local;
 pub use mail_laws::{
     copies_arrive_later, edits_change_one_key, front_comes_first, marks_lie_ahead,
-    sends_add_their_copies,
+    sends_add_their_copies, slots_are_counted,
 };
 pub use message_at::MessageAt;
+pub use parcel::{Credit, Lent, Parcel};
 pub use routes::Routes;
 pub use ruby_value::{
     Block, BufferPlace, BufferSetup, Fault, Fields, MachineSetup, Message, NoMemory, Ref, Seq,

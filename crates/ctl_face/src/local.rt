@@ -19,6 +19,7 @@ ghost use Rattle.ctl_face.specs.Ready.{front_now, ready, required_front};
 ghost use Rattle.ctl_face.specs.Recycle.{recycle};
 ghost use Rattle.ctl_face.specs.Served.{is_cache, is_tbe_table, looks_up, deallocates, HasField, HasStates, Receives, Sends, Serves, TakesField, TakesMessage};
 ghost use Rattle.ctl_face.specs.Set.{set};
+ghost use Rattle.ctl_face.specs.Slots.{slots};
 ghost use Rattle.ctl_face.specs.Stall.{stall};
 ghost use Rattle.ctl_face.specs.State.{state, set_state};
 ghost use Rattle.ctl_face.specs.Touch.{touch};
@@ -146,7 +147,8 @@ pub trait Local {
         requires place { IsPlace (view self.now) at }
         ensures { message_at (view self.now) at ≡ Some result.now };
 
-    /// Consumes the front of a buffer. The fault `Front` comes exactly where there is none.
+    /// Consumes the front of a buffer, for which a credit goes to its sender where it had a slot. The fault `Front` comes exactly
+    /// where there is none.
     fn pop(&mut self, buffer: u16) -> Result<(), Trouble>
         requires served { Receives (view self.old) buffer }
         ensures { Does (pop (view self.old) buffer) result (view self.old) (view self.new) };
@@ -182,6 +184,12 @@ pub trait Local {
         requires fields { TakesMessage (view self.old) buffer fields }
         ensures { Does (enqueue (view self.old) buffer latency fields)
             result (view self.old) (view self.new) };
+
+    /// How many slots are left on a buffer that the machine sends on: the least that is free at any receiver whose buffer there
+    /// has a size, or `None` exactly where none has one.
+    fn slots(&self, buffer: u16) -> Option<u64>
+        requires served { Sends (view self.now) buffer }
+        ensures { result ≡ slots (view self.now) buffer };
 
     /// Finishes a load or a fetch of a line with the block that it reads. The fault `Callback` comes exactly where the line
     /// has no such request.

@@ -1,6 +1,6 @@
 // Laws of a controller's mail, and that an edit of its lists and maps changes one key. These functions do nothing: their
 // contracts are the laws.
-ghost use Rattle.std.specs.Prelude.{◌≡◌, ◌≢◌, ◌<◌, ◌≤◌, ◌⊎◌, ◌↔◌, ◌==◌, ℕ, ℤ, List, Ok, Some, IsTrue, Contains, nat_abs, slice_get, if◌then◌else◌};
+ghost use Rattle.std.specs.Prelude.{◌≡◌, ◌≢◌, ◌<◌, ◌≤◌, ◌⊎◌, ◌↔◌, ◌==◌, ◌+◌, ◌&&◌, nat_le, ℕ, ℤ, List, Ok, Some, IsTrue, Contains, nat_abs, slice_get, if◌then◌else◌};
 ghost use Rattle.std.specs.List.{All};
 ghost use Rattle.ruby_value.specs.declared.message.MsgNo.{MsgNo};
 ghost use Rattle.ruby_value.specs.declared.setup.BufferSetup.{BufferSetup};
@@ -9,7 +9,9 @@ ghost use Rattle.ruby_value.specs.declared.value.Value.{Value};
 ghost use Rattle.ruby_value.specs.Prelude.{has_mark, marks_from, with_mark};
 ghost use Rattle.ruby_value.specs.declared.message.Delivery.{Delivery};
 ghost use Rattle.ruby_value.specs.declared.message.Message.{Message};
-ghost use Rattle.ctl_face.specs.Prelude.{again, InboxMessage, Mail, enqueue, IsFront, front, changed_message, without_message, Actor, LocalView, MarksAhead, recycle, Sending, send, SendAdds, SendsKeepOrder, set_state, state};
+ghost use Rattle.ctl_face.specs.declared.parcel.Credit.{Credit};
+ghost use Rattle.ctl_face.specs.declared.parcel.Lent.{Lent};
+ghost use Rattle.ctl_face.specs.Prelude.{again, arrived_credits, credits_from, free_slots, is_credit_of, lent_at, lent_from, with_credit, with_lent, InboxMessage, Mail, enqueue, IsFront, front, changed_message, without_message, Actor, LocalView, MarksAhead, recycle, Sending, send, SendAdds, SendsKeepOrder, set_state, state};
 ghost use Rattle.ctl_face.specs.Inbox.{with_message};
 
 /// Each copy that a send makes arrives after the cycle of the send.
@@ -21,9 +23,9 @@ pub fn copies_arrive_later()
 {}
 
 /// A send that ends without a fault makes one copy for each receiver that its message names, with the sender's next numbers, and
-/// adds them to the sender's counts, to the last arrivals that later sends go by, and to its own inbox where it is a receiver. A
-/// copy's time is told exactly where the network isn't ordered or no receiver is named twice, and else from below. Where a network
-/// keeps order, what is sent first arrives first, as long as nothing between the two sends lowers a last arrival there.
+/// adds them to the sender's counts, to the last arrivals that later sends go by, to the slots in use, and to its own inbox where it is
+/// a receiver. Where a network keeps order, what is sent first arrives first, as long as nothing between the two sends lowers a last
+/// arrival there.
 pub fn sends_add_their_copies()
     ensures added { (machine : MachineSetup) (actor : Actor) (mail : Mail) (buffer : ℕ) (latency : ℤ)
         (fields : List Value) (now : ℕ) (on : BufferSetup) (s : Sending)
@@ -32,6 +34,29 @@ pub fn sends_add_their_copies()
         → SendAdds on.place on.ordered actor mail buffer (nat_abs latency) fields now s }
     ensures order { (network : ℕ) (machine : MachineSetup) (actor : Actor) (mail : Mail)
         → SendsKeepOrder network machine actor mail }
+{}
+
+/// A slot more in use is counted at its buffer and receiver alone, and so is a credit that comes. In which order credits come doesn't
+/// matter. What a cycle's beginning settles leaves as many slots free in each cycle from then on, where no more credits have arrived
+/// than slots were in use.
+pub fn slots_are_counted()
+    ensures lent { (lent : List Lent) (receiver buffer other_receiver other_buffer : ℕ)
+        → lent_at (with_lent lent receiver buffer) other_receiver other_buffer
+        ≡ lent_at lent other_receiver other_buffer
+        + (if receiver == other_receiver && buffer == other_buffer then 1 else 0) }
+    ensures credit { (credits : List Credit) (c : Credit) (receiver buffer now : ℕ)
+        → arrived_credits (with_credit credits c) receiver buffer now
+        ≡ arrived_credits credits receiver buffer now
+        + (if is_credit_of receiver buffer c && nat_le c.arrival now then 1 else 0) }
+    ensures order { (credits : List Credit) (a b : Credit)
+        → with_credit (with_credit credits a) b ≡ with_credit (with_credit credits b) a }
+    ensures settled { (lent : List Lent) (credits : List Credit)
+        (size receiver buffer now later : ℕ)
+        → now ≤ later
+        → arrived_credits credits receiver buffer now ≤ lent_at lent receiver buffer
+        → free_slots (lent_from now credits lent) (credits_from now credits) size receiver buffer
+        later
+        ≡ free_slots lent credits size receiver buffer later }
 {}
 
 /// Each cycle at which a controller must wake after one of these acts is one at which it had to before, or comes after this

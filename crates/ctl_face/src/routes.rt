@@ -1,5 +1,5 @@
 ghost use Rattle.std.specs.Prelude.{◌≡◌};
-ghost use Rattle.ctl_face.specs.Routing.{receiving_buffer, path_to, is_ordered};
+ghost use Rattle.ctl_face.specs.Routing.{receiving_buffer, path_to, is_ordered, size_of};
 
 use ruby_value::Seq;
 
@@ -17,6 +17,9 @@ pub struct Routes {
     /// By controller, of which there are at most 64, and then virtual network, the number within its machine of the buffer
     /// that takes the messages of that network, where it has one.
     pub receiving: Seq<Seq<Option<u16>>>,
+    /// The buffers with a size, each once: the controller, the number within its machine of a buffer that it takes messages from,
+    /// and how many slots each sender has there, at most 65,536. A buffer that isn't listed has no size.
+    pub slots: Seq<(u32, u16, u64)>,
 }
 
 impl Routes {
@@ -31,6 +34,17 @@ impl Routes {
             Some(buffer) => *buffer,
             None => None,
         }
+    }
+
+    /// How many slots each sender has in a buffer at a receiver, if the buffer has a size. It takes no memory.
+    pub fn size_of(&self, receiver: u32, buffer: u16) -> Option<u64>
+        ensures { result ≡ size_of self.now receiver buffer }
+    {
+        let slot = self
+            .slots
+            .iter()
+            .find(|slot| slot.0 == receiver && slot.1 == buffer)?;
+        Some(slot.2)
     }
 
     /// The length of the path between two controllers, in cycles; 0 between two that aren't there. It takes no memory.

@@ -6,19 +6,18 @@ use Rattle.ruby_value.specs.declared.fault.Fault.TheVariants.{Front, Latency}
 use Rattle.ruby_value.specs.declared.message.Message.{Message}
 use Rattle.ruby_value.specs.declared.message.MsgNo.{MsgNo}
 use Rattle.stall_map.specs.declared.stalled.Stalled.{Stalled}
-use Rattle.ctl_face.specs.Prelude.{Acts, at_front, InboxMessage, Mail, NumbersAscend, changed_message, without_message, is_latency, incoming_message, mail_without, mail_with_recycled, message_arriving_again}
+use Rattle.ctl_face.specs.Prelude.{Acts, at_front, InboxMessage, Mail, NumbersAscend, changed_message, is_latency, incoming_message, mail_with_recycled, message_arriving_again}
 use Rattle.ctl_face.specs.Front as face
-use Rattle.ctl_face.proofs.Inboxes.{ascend-without}
-use Rattle.ctl_face.proofs.OneKey.{changed_message-contains, without_message-contains}
+use Rattle.ctl_face.proofs.OneKey.{changed_message-contains}
 use Rattle.ctl_face.proofs.Fronts.{front_first}
 use Rattle.ctl_mail.proofs.Changed.{ascend-changed}
 use Rattle.ctl_mail.proofs.Inboxes.{one-of-ascending}
 use Rattle.ctl_mail.proofs.Leasts.{front-least}
 use Rattle.ctl_mail.proofs.SentActs.{fits-act}
 use Rattle.ctl_mail.specs.declared.act.MailAct.{MailAct}
-use Rattle.ctl_mail.specs.declared.act.MailAct.TheVariants.{Mark, Pop, Recycle}
+use Rattle.ctl_mail.specs.declared.act.MailAct.TheVariants.{Mark, Recycle}
 use Rattle.ctl_mail.specs.declared.sent.SendCounts.{SendCounts}
-use Rattle.ctl_mail.specs.Prelude.{view_after_front, view_again, view_popped, view_recycled, IsFree, IsLeast, Queues, mail_of, AreOf, IsGone, IsSeen, Reflects, Told, after_act, after_acts, changed_mail, changed_view, mail_at_front}
+use Rattle.ctl_mail.specs.Prelude.{view_after_front, view_again, view_recycled, IsFree, IsLeast, Queues, mail_of, AreOf, IsGone, IsSeen, Reflects, Told, after_act, after_acts, changed_mail, changed_view, mail_at_front}
 use Rattle.ctl_mail.specs.declared.store.MailStore.{MailStore}
 
 pub fold-more : {A B : Type 0} (f : B → A → B) (b : B) (xs : List A) (x : A) → fold f b (xs ++ x ∷ []) ≡ f (fold f b xs) x
@@ -41,13 +40,6 @@ pub none-there : {X : Type 0} (xs : List X) → length xs ≤ 0 → xs ≡ []
 none-there [] none = refl
 none-there (x ∷ xs) none = absurd (omega arith)
 
--- the changes with one consumed message more
-abbrev pub told_popped : Told → ℕ → MsgNo → Told
-told_popped old buffer number = record old {
-  log = old.log ++ Pop buffer ∷ [];
-  acts = record old.acts { consumed = old.acts.consumed ++ number ∷ [] };
-}
-
 abbrev pub told_again : Told → ℕ → Told
 told_again old cycle = record old {
   log = old.log ++ Mark cycle ∷ [];
@@ -55,25 +47,6 @@ told_again old cycle = record old {
 }
 
 module _ (mail : Mail) (old : Told) where
-  popped-mail : (buffer : ℕ) (m : Message) → face.front (changed_mail mail old) buffer old.cycle ≡ Some m
-      → changed_mail mail (told_popped old buffer m.number) ≡ mail_without (changed_mail mail old) m
-  popped-mail buffer m is =
-      after-more old.cycle mail old.log (Pop buffer)
-      ∙ ap (λ (o : Option Message). mail_at_front (changed_mail mail old) (at_front (mail_without (changed_mail mail old)) o)) is
-
-  pub does-pop : (buffer : ℕ) (m : Message) → face.front (changed_mail mail old) buffer old.cycle ≡ Some m
-      → view_popped (changed_view mail old) buffer old.cycle ≡ Ok (changed_view mail (told_popped old buffer m.number))
-  does-pop buffer m is =
-      let w = changed_view mail old in
-      ap (λ (o : Option Message). view_after_front (λ (number : MsgNo). record w.acts { consumed = w.acts.consumed ++ number ∷ [] }) (at_front (mail_without w.mail) o)) is
-      ∙ ap (λ (after : Mail). Ok (record { mail = after; acts = record w.acts { consumed = w.acts.consumed ++ m.number ∷ [] } })) (sym (popped-mail buffer m is))
-
-  pub no-pop : (buffer : ℕ) → face.front (changed_mail mail old) buffer old.cycle ≡ None
-      → view_popped (changed_view mail old) buffer old.cycle ≡ Err Front
-  no-pop buffer is =
-      let w = changed_view mail old in
-      ap (λ (o : Option Message). view_after_front (λ (number : MsgNo). record w.acts { consumed = w.acts.consumed ++ number ∷ [] }) (at_front (mail_without w.mail) o)) is
-
   pub does-again : view_again (changed_view mail old) old.cycle ≡ changed_view mail (told_again old (old.cycle + 1))
   does-again =
       ap (λ (after : Mail). record { mail = after; acts = record old.acts { again = true } }) (sym (after-more old.cycle mail old.log (Mark (old.cycle + 1))))
@@ -94,7 +67,7 @@ module _ (queues : Queues) (stalled : List Stalled) (old : Told) (counts : SendC
       λ l.
           (reflects.left o seen).1 (record { before = l.before; held = l.held; now = l.now; not_gone = λ gone. l.not_gone (on o.message.number gone) }),
     );
-    none_back = λ none. reflects.none_back (sym woken ∙ none);
+    back = λ s has none. subst (λ (ns : List MsgNo). Contains ns s.message.number) (sym woken) (reflects.back s has none);
     moved = reflects.moved;
   }
 
@@ -123,7 +96,7 @@ module _ (queues : Queues) (stalled : List Stalled) (old : Told) (counts : SendC
               λ same. l.not_gone (subst (IsGone acts) (sym same) it),
             ),
       );
-      none_back = λ none. reflects.none_back (sym woken ∙ none);
+      back = λ s has none. subst (λ (ns : List MsgNo). Contains ns s.message.number) (sym woken) (reflects.back s has none);
       moved = reflects.moved;
     }
 
@@ -208,31 +181,14 @@ are-of-recycle store old buffer arrival m later is are =
           inbox (changed_message inbox m.number change) (ascend-changed inbox m change (λ o. refl) reflects.ascends)
           (λ o seen. changed-loses inbox m.number change o (never o seen))
           reflects),
-      fits-act (mail_of store) old (Recycle buffer arrival) new.acts old.moves tt are.1,
+      fits-act (mail_of store) old (Recycle buffer arrival) new.acts old.moves tt tt are.1,
     )
 
 -- changes of a scan of this mail still are that after an act
-pub are-of-pop : (store : MailStore) (old : Told) (buffer : ℕ) (m : Message) → face.front (changed_mail (mail_of store) old) buffer old.cycle ≡ Some m
-    → AreOf store old → AreOf store (told_popped old buffer m.number)
-are-of-pop store old buffer m is are =
-    let reflects = are.0 in
-    let inbox = (changed_mail (mail_of store) old).inbox in
-    let new = told_popped old buffer m.number in (
-      subst (λ (after : Mail). Reflects store.buffers.items store.stalls.kept new after.inbox) (sym (popped-mail (mail_of store) old buffer m is))
-          (reflects-gone store.buffers.items store.stalls.kept old old.counts new.log new.acts refl m.number
-          (λ n gone. ⊎_elim (λ consumed. ⊎_elim (λ has. inl (inl has)) (λ same. inr same) (Contains-push_cases old.acts.consumed m.number n consumed)) (λ recycled. inl (inr recycled)) gone)
-          (λ n gone. ⊎_elim (λ consumed. inl (Contains-append_left old.acts.consumed (m.number ∷ []) n consumed)) (λ recycled. inr recycled) gone)
-          (inl (Contains-push old.acts.consumed m.number))
-          inbox (without_message inbox m.number) (ascend-without inbox m.number reflects.ascends)
-          (λ o seen. without_message-contains inbox m.number o)
-          reflects),
-      fits-act (mail_of store) old (Pop buffer) new.acts old.moves tt are.1,
-    )
-
 pub are-of-again : (store : MailStore) (old : Told) (cycle : ℕ) → AreOf store old → AreOf store (told_again old cycle)
 are-of-again store old cycle are =
     let new = told_again old cycle in (
       subst (λ (mail : Mail). Reflects store.buffers.items store.stalls.kept new mail.inbox) (sym (after-more old.cycle (mail_of store) old.log (Mark cycle)))
           (reflects-as store.buffers.items store.stalls.kept old old.counts new.log new.acts refl (changed_mail (mail_of store) old).inbox (λ n gone. gone) (λ n gone. gone) are.0),
-      fits-act (mail_of store) old (Mark cycle) new.acts old.moves tt are.1,
+      fits-act (mail_of store) old (Mark cycle) new.acts old.moves tt tt are.1,
     )

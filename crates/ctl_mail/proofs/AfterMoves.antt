@@ -93,6 +93,22 @@ module _ (n : MsgNo) where
       (so.0, Contains-cons_there m so.0 ms so.1, so.2))
       (same-or-not m.number n)
 
+  -- it waits as before, or so as its last entry says
+  pub last-entry : (moves : List Move) (before : Option ℕ)
+      → (waiting_after n moves before ≡ before) ⊎ ((m : Move) × Contains moves m × (m.number ≡ n) × (m.line ≡ waiting_after n moves before))
+  last-entry [] before = inl (after-nothing before)
+  last-entry (m ∷ ms) before =
+      let first = after-cons m ms before in
+      ⊎_elim
+      (λ (stays : waiting_after n ms (after_move n before m) ≡ after_move n before m).
+      ⊎_elim
+      (λ same. inr (m, Contains-cons_here m ms, same, sym (first ∙ (stays ∙ move-of m before same))))
+      (λ apart. inl (first ∙ (stays ∙ move-of-other m before apart)))
+      (same-or-not m.number n))
+      (λ (later : (x : Move) × Contains ms x × (x.number ≡ n) × (x.line ≡ waiting_after n ms (after_move n before m))).
+      inr (later.0, Contains-cons_there m later.0 ms later.1, later.2, later.3 ∙ sym first))
+      (last-entry ms (after_move n before m))
+
   -- with an entry it doesn't matter how it waited before
   pub with-entry : (moves : List Move) (m : Move) (a b : Option ℕ) → Contains moves m → m.number ≡ n → waiting_after n moves a ≡ waiting_after n moves b
   with-entry [] m a b has is = absurd (nothing-there m has)

@@ -35,7 +35,7 @@ begun store cycle is = record {
         (inbox-has store.buffers.items store.stalls.kept is.holds o).1
         (subst (λ (w : Option ℕ). IsAt store.buffers.items store.stalls.kept o.message w) same l.held),
   );
-  none_back = λ none s has. some-line s.line _ (after-nothing s.message.number (Some s.line));
+  back = λ s has none. absurd (some-line s.line _ (after-nothing s.message.number (Some s.line)) none);
   moved = λ move has. absurd (nothing-there move has);
 }
 

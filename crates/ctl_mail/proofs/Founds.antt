@@ -1,14 +1,20 @@
 -- The numbers that are found as a wake goes along the stalled messages, or along the moves of the scan.
-use Rattle.std.proofs.Common.{◌≡◌, ◌⊎◌, ◌<◌, ◌+◌, ℕ, None, Some, List, [], ◌∷◌, sym, subst, ap, ◌∙◌, inl, inr, ⊎_elim, length, Contains, get_or, take, slice_get}
-use Rattle.std.proofs.lemmas.List.{take_more}
+use Rattle.std.proofs.Common.{◌≡◌, ◌≢◌, true, ◌⊎◌, ◌<◌, ◌≤◌, ◌+◌, ℕ, not, Option, None, Some, List, [], ◌∷◌, refl, sym, subst, ap, ◌∙◌, inl, inr, ⊎_elim, length, Contains, filter, get_or, take}
+use Rattle.std.proofs.lemmas.Bool.{eq-eqb, eqb-true}
+use Rattle.std.proofs.lemmas.List.{take_all, take_more}
 use Rattle.std.proofs.lemmas.List.Elements.{Contains-append_left, Contains-push, Contains-push_cases}
-use Rattle.std.proofs.lemmas.Option.{slice_get-get_or}
+use Rattle.ruby_value.specs.declared.message.Message.{Message}
 use Rattle.ruby_value.specs.declared.message.MsgNo.{MsgNo}
 use Rattle.stall_map.specs.declared.stalled.Stalled.{Stalled}
+use Rattle.stall_map.specs.Prelude.{Ascends, is_above, is_under, messages_under, next_after, numbers_under}
+use Rattle.ctl_face.proofs.Held.{from-filter, from-map, in-filter, nothing-there, to-map}
 use Rattle.ctl_mail.specs.declared.moves.Move.{Move}
 use Rattle.ctl_mail.specs.declared.moves.Waking.{Waking}
-use Rattle.ctl_mail.specs.Prelude.{Adds, IsWoken, IsWokenMoved, IsWokenStalled, Told}
-use Rattle.ctl_mail.proofs.Rises.{adds-as, adds-both}
+use Rattle.ctl_mail.specs.declared.moves.Waking.TheVariants.{All, Line}
+use Rattle.ctl_mail.specs.Prelude.{Adds, NumbersRise, is_woken, waiting_after, IsWoken, IsWokenMoved, IsWokenSo, IsWokenStalled, IsWokenUnder, Told}
+use Rattle.ctl_mail.proofs.AfterMoves.{last-entry}
+use Rattle.ctl_mail.proofs.Passed.{passed, passed-all, passed-from, passed-none, passed-to}
+use Rattle.ctl_mail.proofs.Rises.{adds-as, adds-both, adds-none}
 
 -- what a list has one place further
 more-from : {X : Type 0} (xs : List X) (i : ℕ) (d x : X) → i < length xs → Contains (take (i + 1) xs) x → Contains (take i xs) x ⊎ (get_or xs i d ≡ x)
@@ -20,54 +26,157 @@ more-old xs i x within has = subst (λ ys. Contains ys x) (sym (take_more xs i x
 more-new : {X : Type 0} (xs : List X) (i : ℕ) (d : X) → i < length xs → Contains (take (i + 1) xs) (get_or xs i d)
 more-new xs i d within = subst (λ ys. Contains ys (get_or xs i d)) (sym (take_more xs i d within)) (Contains-push (take i xs) (get_or xs i d))
 
+pub woken-waits : (waking : Waking) (w : Option ℕ) → is_woken waking w ≡ true → w ≢ None
+woken-waits (Line line) None is none = absurd (cc is)
+woken-waits All None is none = absurd (cc is)
+woken-waits waking (Some l) is none = cc none
+
 module _ (told : Told) (waking : Waking) where
+  -- one of these moves has it so
+  pub record IsWokenBy (moves : List Move) (n : MsgNo) : Type 0 where
+    pub it : Move
+    pub held : Contains moves it
+    pub is : IsWokenSo told waking it n
+
   module _ (moves : List Move) (i : ℕ) (d : Move) (within : i < length moves) where
     abbrev At : MsgNo → Type 0
-    At n = IsWoken told waking (get_or moves i d).number None × ((get_or moves i d).number ≡ n)
+    At n = IsWokenSo told waking (get_or moves i d) n
 
-    moved-to : (n : MsgNo) → IsWokenMoved (take i moves) told waking n ⊎ At n → IsWokenMoved (take (i + 1) moves) told waking n
+    moved-to : (n : MsgNo) → IsWokenBy (take i moves) n ⊎ At n → IsWokenBy (take (i + 1) moves) n
     moved-to n either =
         ⊎_elim
-        (λ (is : IsWokenMoved (take i moves) told waking n). record { it = is.it; held = more-old moves i is.it within is.held; is = is.is; number_is = is.number_is })
-        (λ (is : At n). record { it = get_or moves i d; held = more-new moves i d within; is = is.0; number_is = is.1 })
+        (λ (is : IsWokenBy (take i moves) n). record { it = is.it; held = more-old moves i is.it within is.held; is = is.is })
+        (λ (is : At n). record { it = get_or moves i d; held = more-new moves i d within; is = is })
         either
 
-    moved-from : (n : MsgNo) → IsWokenMoved (take (i + 1) moves) told waking n → IsWokenMoved (take i moves) told waking n ⊎ At n
+    moved-from : (n : MsgNo) → IsWokenBy (take (i + 1) moves) n → IsWokenBy (take i moves) n ⊎ At n
     moved-from n is =
         ⊎_elim
-        (λ there. inl (record { it = is.it; held = there; is = is.is; number_is = is.number_is }))
-        (λ same. inr (subst (λ (m : Move). IsWoken told waking m.number None) (sym same) is.is, ap (λ (m : Move). m.number) same ∙ is.number_is))
+        (λ there. inl (record { it = is.it; held = there; is = is.is }))
+        (λ same. inr (subst (λ (m : Move). IsWokenSo told waking m n) (sym same) is.is))
         (more-from moves i d is.it within is.held)
 
-    pub moved-more : (a b c : List MsgNo) → Adds a (IsWokenMoved (take i moves) told waking) b → Adds b At c → Adds a (IsWokenMoved (take (i + 1) moves) told waking) c
+    pub moved-more : (a b c : List MsgNo) → Adds a (IsWokenBy (take i moves)) b → Adds b At c → Adds a (IsWokenBy (take (i + 1) moves)) c
     moved-more a b c first second =
-        adds-as (λ n. IsWokenMoved (take i moves) told waking n ⊎ At n) (IsWokenMoved (take (i + 1) moves) told waking) a c moved-to moved-from
-        (adds-both (IsWokenMoved (take i moves) told waking) At a b c first second)
+        adds-as (λ n. IsWokenBy (take i moves) n ⊎ At n) (IsWokenBy (take (i + 1) moves)) a c moved-to moved-from (adds-both (IsWokenBy (take i moves)) At a b c first second)
 
-  module _ (stalled : List Stalled) (i : ℕ) (s : Stalled) (within : i < length stalled) (here : slice_get stalled i ≡ Some s) where
+  pub moved-none : (moves : List Move) (a : List MsgNo) → NumbersRise a → Adds a (IsWokenBy (take 0 moves)) a
+  moved-none moves a rises = adds-none (IsWokenBy (take 0 moves)) a rises (λ n is. nothing-there is.it is.held)
+
+  -- what waits since a move, waits so since its last one
+  pub moved-all : (moves : List Move) (i : ℕ) → moves ≡ told.moves → length moves ≤ i → (a b : List MsgNo) → Adds a (IsWokenBy (take i moves)) b → Adds a (IsWokenMoved moves told waking) b
+  moved-all moves i all past a b adds =
+      adds-as (IsWokenBy (take i moves)) (IsWokenMoved moves told waking) a b
+      (λ n is. record { it = is.it; held = subst (λ ms. Contains ms is.it) (take_all i moves past) is.held; is = is.is.is; number_is = is.is.number_is })
+      (λ n is.
+      let number = is.it.number in
+      ⊎_elim
+      (λ (stays : waiting_after number told.moves None ≡ None).
+      absurd (woken-waits waking (waiting_after number told.moves None) is.is.woken stays))
+      (λ (last : (m : Move) × Contains told.moves m × (m.number ≡ number) × (m.line ≡ waiting_after number told.moves None)).
+      record {
+        it = last.0;
+        held = subst (λ ms. Contains ms last.0) (sym (take_all i moves past ∙ all)) last.1;
+        is = record {
+          so = ap (is_woken waking) last.3 ∙ is.is.woken;
+          is = subst (λ k. IsWoken told waking k None) (sym last.2) is.is;
+          number_is = last.2 ∙ is.number_is;
+        };
+      })
+      (last-entry number told.moves None))
+      adds
+
+  -- the next of all that wait
+  module _ (stalled : List Stalled) (ascends : Ascends stalled) (number : Option MsgNo) (s : Stalled) (next : next_after stalled number ≡ Some s) where
     abbrev It : MsgNo → Type 0
     It n = IsWoken told waking s.message.number (Some s.line) × (s.message.number ≡ n)
 
-    it-is : get_or stalled i s ≡ s
-    it-is = let read : slice_get stalled i ≡ Some (get_or stalled i s) = slice_get-get_or stalled i s within in cc (read, here)
+    abbrev Before : MsgNo → Type 0
+    Before = IsWokenStalled (passed stalled number) told waking
 
-    stalled-to : (n : MsgNo) → IsWokenStalled (take i stalled) told waking n ⊎ It n → IsWokenStalled (take (i + 1) stalled) told waking n
+    abbrev After : MsgNo → Type 0
+    After = IsWokenStalled (passed stalled (Some s.message.number)) told waking
+
+    stalled-to : (n : MsgNo) → Before n ⊎ It n → After n
     stalled-to n either =
         ⊎_elim
-        (λ (is : IsWokenStalled (take i stalled) told waking n). record { it = is.it; held = more-old stalled i is.it within is.held; is = is.is; number_is = is.number_is })
-        (λ (is : It n). record { it = s; held = subst (Contains (take (i + 1) stalled)) it-is (more-new stalled i s within); is = is.0; number_is = is.1 })
+        (λ (is : Before n). record { it = is.it; held = passed-to stalled ascends number s next is.it (inl is.held); is = is.is; number_is = is.number_is })
+        (λ (is : It n). record { it = s; held = passed-to stalled ascends number s next s (inr refl); is = is.0; number_is = is.1 })
         either
 
-    stalled-from : (n : MsgNo) → IsWokenStalled (take (i + 1) stalled) told waking n → IsWokenStalled (take i stalled) told waking n ⊎ It n
+    stalled-from : (n : MsgNo) → After n → Before n ⊎ It n
     stalled-from n is =
         ⊎_elim
         (λ there. inl (record { it = is.it; held = there; is = is.is; number_is = is.number_is }))
-        (λ same.
-        let so : is.it ≡ s = sym same ∙ it-is in
-        inr (subst (λ (z : Stalled). IsWoken told waking z.message.number (Some z.line)) so is.is, ap (λ (z : Stalled). z.message.number) (sym so) ∙ is.number_is))
-        (more-from stalled i s is.it within is.held)
+        (λ (same : s ≡ is.it).
+        inr (subst (λ (z : Stalled). IsWoken told waking z.message.number (Some z.line)) (sym same) is.is, ap (λ (z : Stalled). z.message.number) same ∙ is.number_is))
+        (passed-from stalled ascends number s next is.it is.held)
 
-    pub stalled-more : (a b c : List MsgNo) → Adds a (IsWokenStalled (take i stalled) told waking) b → Adds b It c → Adds a (IsWokenStalled (take (i + 1) stalled) told waking) c
-    stalled-more a b c first second =
-        adds-as (λ n. IsWokenStalled (take i stalled) told waking n ⊎ It n) (IsWokenStalled (take (i + 1) stalled) told waking) a c stalled-to stalled-from
-        (adds-both (IsWokenStalled (take i stalled) told waking) It a b c first second)
+    pub stalled-more : (a b c : List MsgNo) → Adds a Before b → Adds b It c → Adds a After c
+    stalled-more a b c first second = adds-as (λ n. Before n ⊎ It n) After a c stalled-to stalled-from (adds-both Before It a b c first second)
+
+  pub stalled-none : (stalled : List Stalled) (a : List MsgNo) → NumbersRise a → Adds a (IsWokenStalled (passed stalled None) told waking) a
+  stalled-none stalled a rises = adds-none (IsWokenStalled (passed stalled None) told waking) a rises (λ n is. passed-none stalled is.it is.held)
+
+  pub stalled-all : (stalled : List Stalled) (number : Option MsgNo) → next_after stalled number ≡ None → (a b : List MsgNo)
+      → Adds a (IsWokenStalled (passed stalled number) told waking) b → Adds a (IsWokenStalled stalled told waking) b
+  stalled-all stalled number none a b adds =
+      adds-as (IsWokenStalled (passed stalled number) told waking) (IsWokenStalled stalled told waking) a b
+      (λ n is. record { it = is.it; held = (from-filter (λ (s : Stalled). not (is_above number s)) stalled is.it is.held).0; is = is.is; number_is = is.number_is })
+      (λ n is. record { it = is.it; held = passed-all stalled number none is.it is.held; is = is.is; number_is = is.number_is })
+      adds
+
+-- the numbers under a line
+module _ (told : Told) (line : ℕ) where
+  abbrev pub IsWokenOf : List MsgNo → MsgNo → Type 0
+  IsWokenOf numbers n = Contains numbers n × IsWoken told (Line line) n (Some line)
+
+  abbrev One : MsgNo → MsgNo → Type 0
+  One number n = IsWoken told (Line line) number (Some line) × (number ≡ n)
+
+  pub under-none : (a : List MsgNo) (numbers : List MsgNo) → NumbersRise a → Adds a (IsWokenOf (take 0 numbers)) a
+  under-none a numbers rises = adds-none (IsWokenOf (take 0 numbers)) a rises (λ n is. nothing-there n is.0)
+
+  pub under-more : (numbers : List MsgNo) (i : ℕ) (d : MsgNo) → i < length numbers → (a b c : List MsgNo) → Adds a (IsWokenOf (take i numbers)) b
+      → Adds b (One (get_or numbers i d)) c → Adds a (IsWokenOf (take (i + 1) numbers)) c
+  under-more numbers i d within a b c first second =
+      adds-as (λ n. IsWokenOf (take i numbers) n ⊎ One (get_or numbers i d) n) (IsWokenOf (take (i + 1) numbers)) a c
+      (λ n either.
+      ⊎_elim
+      (λ (is : IsWokenOf (take i numbers) n). (more-old numbers i n within is.0, is.1))
+      (λ (is : One (get_or numbers i d) n).
+      (subst (Contains (take (i + 1) numbers)) is.1 (more-new numbers i d within), subst (λ k. IsWoken told (Line line) k (Some line)) is.1 is.0))
+      either)
+      (λ n is.
+      ⊎_elim
+      (λ earlier. inl (earlier, is.1))
+      (λ (same : get_or numbers i d ≡ n). inr (subst (λ k. IsWoken told (Line line) k (Some line)) (sym same) is.1, same))
+      (more-from numbers i d n within is.0))
+      (adds-both (IsWokenOf (take i numbers)) (One (get_or numbers i d)) a b c first second)
+
+  -- they are those of the messages there
+  pub under-all : (stalled : List Stalled) (numbers : List MsgNo) (i : ℕ) → numbers ≡ numbers_under stalled line → length numbers ≤ i → (a b : List MsgNo)
+      → Adds a (IsWokenOf (take i numbers)) b → Adds a (IsWokenUnder stalled told line) b
+  under-all stalled numbers i is past a b adds =
+      adds-as (IsWokenOf (take i numbers)) (IsWokenUnder stalled told line) a b
+      (λ n of.
+      let has : Contains (numbers_under stalled line) n = subst (λ ns. Contains ns n) (take_all i numbers past ∙ is) of.0 in
+      let m = from-map (λ (m : Message). m.number) (messages_under stalled line) n has in
+      let s = from-map (λ (z : Stalled). z.message) (filter (is_under line) stalled) m.0 m.1 in
+      let kept = from-filter (is_under line) stalled s.0 s.1 in
+      let number : s.0.message.number ≡ n = ap (λ (m : Message). m.number) s.2 ∙ m.2 in
+      record {
+        it = s.0;
+        held = kept.0;
+        under = eqb-true s.0.line line kept.1;
+        is = subst (λ k. IsWoken told (Line line) k (Some line)) (sym number) of.1;
+        number_is = number;
+      })
+      (λ n u.
+      let inside : Contains (filter (is_under line) stalled) u.it = in-filter (is_under line) stalled u.it (eq-eqb u.it.line line u.under) u.held in
+      let message : Contains (messages_under stalled line) u.it.message = to-map (λ (z : Stalled). z.message) (filter (is_under line) stalled) u.it inside in
+      let number : Contains (numbers_under stalled line) u.it.message.number = to-map (λ (m : Message). m.number) (messages_under stalled line) u.it.message message in (
+        subst (λ ns. Contains ns n) (sym (take_all i numbers past ∙ is)) (subst (Contains (numbers_under stalled line)) u.number_is number),
+        subst (λ k. IsWoken told (Line line) k (Some line)) u.number_is u.is,
+      ))
+      adds

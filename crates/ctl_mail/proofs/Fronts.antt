@@ -1,11 +1,10 @@
 -- Going along a queue past the messages that are gone leads to the first that is left, which is the front of the changed mail.
-use Rattle.std.proofs.Common.{nat_le, ◌≡◌, ◌≢◌, ◌⊎◌, inl, inr, ◌≤◌, ◌<◌, ◌+◌, ◌&&◌, ℕ, Bool, true, false, not, Option, None, Some, List, [], ◌∷◌, refl, sym, subst, ⊎_elim, cond, length, Contains, IsTrue, filter, arith}
+use Rattle.std.proofs.Common.{nat_le, ◌≡◌, ◌≢◌, ◌⊎◌, inl, inr, ◌≤◌, ◌<◌, ◌+◌, ◌&&◌, ℕ, Bool, true, false, Option, None, Some, List, [], refl, sym, subst, ⊎_elim, length, Contains, IsTrue, filter, arith}
 use Rattle.std.proofs.lemmas.Bool.Decides.{nat_tests}
 use Rattle.ruby_value.specs.declared.message.Message.{Message}
 use Rattle.ruby_value.specs.declared.message.MsgNo.{MsgNo}
 use Rattle.stall_map.specs.declared.stalled.Stalled.{Stalled}
 use Rattle.ruby_value.specs.Front as general
-use Rattle.ruby_value.proofs.Contained.{Contains-cons_cases}
 use Rattle.ruby_value.proofs.Fronts.{front-is}
 use Rattle.msg_buffer.specs.Queue as queue
 use Rattle.msg_buffer.specs.Prelude.{ComesBefore, is_after, next_after}
@@ -14,6 +13,7 @@ use Rattle.ctl_face.specs.Front as face
 use Rattle.ctl_face.proofs.Held.{nothing-there}
 use Rattle.ctl_mail.specs.Prelude.{IsAt, HasArrived, IsBack, IsEither, IsFirst, IsFree, IsLeast, IsLeftIn, waiting_after, Queues, queue_of, IsGone, IsOut, Reflects, Told}
 use Rattle.ctl_mail.proofs.Leasts.{front-only, least-as, queue-least}
+use Rattle.ctl_mail.proofs.Rises.{shorter}
 
 module _ (messages : List Message) (cycle : ℕ) (Out : MsgNo → Type 0) where
   abbrev pub NoneBefore : Message → Type 0
@@ -82,35 +82,6 @@ module _ (messages : List Message) where
   abbrev pub steps_from : Option Message → ℕ
   steps_from None = 0
   steps_from (Some x) = 1 + length (filter (is_after x.arrival x.number) messages)
-
-  no-longer : (p q : Message → Bool) → ((m : Message) → q m ≡ true → p m ≡ true) → (xs : List Message) → length (filter q xs) ≤ length (filter p xs)
-  no-longer p q weaker [] = omega arith
-  no-longer p q weaker (x ∷ xs) = by (p x) (q x) (weaker x) (no-longer p q weaker xs)
-    where
-      by : (a b : Bool) → (b ≡ true → a ≡ true) → length (filter q xs) ≤ length (filter p xs) → length (cond b (x ∷ filter q xs) (filter q xs)) ≤ length (cond a (x ∷ filter p xs) (filter p xs))
-      by true true is rest = omega arith
-      by true false is rest = omega arith
-      by false true is rest = absurd (cc (is refl))
-      by false false is rest = rest
-
-  shorter : (p q : Message → Bool) → ((m : Message) → q m ≡ true → p m ≡ true) → (y : Message) → p y ≡ true → q y ≡ false → (xs : List Message) → Contains xs y → length (filter q xs) < length (filter p xs)
-  shorter p q weaker y is not [] has = absurd (nothing-there y has)
-  shorter p q weaker y is not (x ∷ xs) has =
-      ⊎_elim
-      (λ (same : x ≡ y). here (p x) (q x) (subst (λ z. p z ≡ true) (sym same) is) (subst (λ z. q z ≡ false) (sym same) not) (no-longer p q weaker xs))
-      (λ there. later (p x) (q x) (weaker x) (shorter p q weaker y is not xs there))
-      (Contains-cons_cases x y xs has)
-    where
-      here : (a b : Bool) → a ≡ true → b ≡ false → length (filter q xs) ≤ length (filter p xs) → length (cond b (x ∷ filter q xs) (filter q xs)) < length (cond a (x ∷ filter p xs) (filter p xs))
-      here true false is not rest = omega arith
-      here true true is not rest = absurd (cc not)
-      here false b is not rest = absurd (cc is)
-
-      later : (a b : Bool) → (b ≡ true → a ≡ true) → length (filter q xs) < length (filter p xs) → length (cond b (x ∷ filter q xs) (filter q xs)) < length (cond a (x ∷ filter p xs) (filter p xs))
-      later true true is rest = omega arith
-      later true false is rest = omega arith
-      later false true is rest = absurd (cc (is refl))
-      later false false is rest = rest
 
   after-far : (x y m : Message) → is_after x.arrival x.number y ≡ true → is_after y.arrival y.number m ≡ true → is_after x.arrival x.number m ≡ true
   after-far x y m first second = grind (arith, nat_tests, first, second)
@@ -194,10 +165,6 @@ module _ (queues : Queues) (stalled : List Stalled) (told : Told) (mail : Mail) 
   front-either buffer o is =
       front-only mail buffer told.cycle o reflects.ascends
       (least-as (IsEither queues stalled told buffer) (IsFree mail.inbox buffer told.cycle) (either-free buffer) (free-either buffer) o is)
-
-  -- where nothing was woken, the queue has all that is ready
-  pub none-back : told.acts.woken ≡ [] → (buffer : ℕ) (m : Message) → IsBack stalled told buffer m → ⊥
-  none-back none buffer m back = reflects.none_back none (record { line = back.line; message = m }) back.held back.now.free.back
 
 pub none-left : (cycle : ℕ) (Out : MsgNo → Type 0) (m : Message) → IsLeftIn [] cycle Out m → ⊥
 none-left cycle Out m left = nothing-there m left.held

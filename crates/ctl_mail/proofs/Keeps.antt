@@ -19,11 +19,12 @@ module _ (old new : MailStore) (marks : mark_room old ≤ mark_room new) (waits 
   pub keeps-room : KeepsRoom old new
   keeps-room = record {
     marks = marks;
-    messages = λ n room. record {
+    parcels = λ n room. record {
       buffers = λ buffer within.
           let before : n ≤ room_of old.buffers.items buffer = room.buffers buffer (there buffer within) in
           let still = in-buffer buffer in
           omega arith;
+      credits = omega (arith, room.credits, places.credits);
       marks = (let before : n < mark_room old = room.marks in omega arith);
     };
     changes = λ told room. record {
@@ -41,6 +42,6 @@ module _ (old new : MailStore) (marks : mark_room old ≤ mark_room new) (waits 
 pub keeps-then : (old middle new : MailStore) → KeepsRoom old middle → KeepsRoom middle new → KeepsRoom old new
 keeps-then old middle new first second = record {
   marks = omega (arith, first.marks, second.marks);
-  messages = λ n room. second.messages n (first.messages n room);
+  parcels = λ n room. second.parcels n (first.parcels n room);
   changes = λ told room. second.changes told (first.changes told room);
 }

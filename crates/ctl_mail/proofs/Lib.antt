@@ -3,7 +3,10 @@ mod Ascending
 mod Backs
 mod Begun
 mod Changed
+mod Collected
 mod Counts
+mod CreditPlaces
+mod Dequeues
 mod Edits
 mod Firsts
 mod Founds
@@ -12,12 +15,14 @@ mod Inboxes
 mod Inserts
 mod Keeps
 mod Latencies
+mod Lends
 mod Located
 mod Leasts
 pub mod Locals
 mod Makes
 mod AfterMoves
 mod NextMarks
+mod Passed
 mod Pops
 mod Puts
 mod Rises

@@ -3,8 +3,8 @@ use Rattle.std.proofs.Common.{◌≡◌, ◌∷◌, ◌++◌, [], ℕ, ℤ, List
 use Rattle.ruby_value.specs.declared.fault.Fault.{Fault}
 use Rattle.ruby_value.specs.declared.message.MsgNo.{MsgNo}
 use Rattle.ruby_value.specs.declared.value.Value.{Value}
-use Rattle.ctl_face.specs.Prelude.{Acts, again, AtFront, after_front, after_sending, enqueue, LocalView, pop, popped_mail, recycle, recycled_mail, Sending, send, stall, stalled_mail, wake, wake_all}
-use Rattle.ctl_mail.specs.Prelude.{view_after_sending, view_sent, MailView, mail_view, view_after_front, view_again, view_popped, view_recycled, view_stalled, view_wake, view_wake_all, with_mail_view}
+use Rattle.ctl_face.specs.Prelude.{Acts, acts_after_dequeue, again, dequeued_mail, AtFront, after_front, after_sending, enqueue, LocalView, pop, recycle, recycled_mail, Sending, send, slots, stall, stalled_mail, wake, wake_all}
+use Rattle.ctl_mail.specs.Prelude.{view_after_sending, view_sent, MailView, mail_view, view_after_front, view_again, view_popped, view_recycled, view_stalled, view_wake, view_wake_all, slots_in, with_mail_view}
 
 -- the local after it, or the fault
 abbrev pub in_local : LocalView → Result MailView Fault → Result LocalView Fault
@@ -15,8 +15,11 @@ front-is : (v : LocalView) (told : MsgNo → Acts) (r : Result AtFront Fault) �
 front-is v told (Ok a) = refl
 front-is v told (Err fault) = refl
 
-pub pop-is : (v : LocalView) (buffer : ℕ) → pop v buffer ≡ in_local v (view_popped (mail_view v) buffer v.now)
-pop-is v buffer = front-is v (λ (number : MsgNo). record v.acts { consumed = v.acts.consumed ++ number ∷ [] }) (popped_mail v.ctl.mail buffer v.now)
+pub pop-is : (v : LocalView) (buffer : ℕ) → pop v buffer ≡ in_local v (view_popped v.actor (mail_view v) buffer v.now)
+pop-is v buffer = front-is v (acts_after_dequeue v.actor buffer v.now v.acts) (dequeued_mail v.actor v.ctl.mail buffer v.now)
+
+pub slots-is : (v : LocalView) (buffer : ℕ) → slots v buffer ≡ slots_in v.ctl.mail v.machine v.actor buffer v.now
+slots-is v buffer = refl
 
 pub again-is : (v : LocalView) → again v ≡ with_mail_view v (view_again (mail_view v) v.now)
 again-is v = refl

@@ -34,7 +34,7 @@ module _ {X : Type 0} (p : X → Bool) where
   none-found [] none x has passes = nothing-there x has
   none-found (y ∷ ys) none x has passes = not-by y x ys (p y) refl none has passes (λ so there. none-found ys so x there passes)
 
-numbers-same : (a b : MsgNo) → same_number a b ≡ true → a ≡ b
+pub numbers-same : (a b : MsgNo) → same_number a b ≡ true → a ≡ b
 numbers-same a b is =
     ⊎_elim (λ same. same) (λ apart. let so : same_number a b ≡ false = differ-test a b apart in absurd (cc (is, so))) (same-or-not a b)
 

@@ -11,6 +11,8 @@ use Rattle.ruby_value.specs.declared.message.MsgNo.{MsgNo}
 use Rattle.ruby_value.proofs.Ordered.{AllPairs-nil}
 use Rattle.msg_buffer.specs.Queue as queue
 use Rattle.stall_map.specs.declared.stalled.Stalled.{Stalled}
+use Rattle.ctl_face.specs.declared.parcel.Credit.{Credit}
+use Rattle.ctl_face.specs.declared.parcel.Lent.{Lent}
 use Rattle.ctl_face.specs.Prelude.{at_front, InboxMessage, Mail, without_message, incoming_message, mail_with_mark, mail_with_arrival, network_count, Lasts, no_mail, NumbersAscend, mail_without, mail_with_recycled, message_arriving_again}
 use Rattle.ctl_face.specs.Front as face
 use Rattle.ctl_face.proofs.Fronts.{front_first}
@@ -35,7 +37,7 @@ module _ (store : MailStore) (new : Vec (Roomy (List Message)) Global) (is_mail 
   with_buffers = record store { buffers = new }
 
   kept : Holds new.items store.stalls.kept → IsMail with_buffers
-  kept holds = record { holds = holds; marks_ascend = is_mail.marks_ascend }
+  kept holds = record { holds = holds; marks_ascend = is_mail.marks_ascend; credits_ascend = is_mail.credits_ascend }
 
   pub same-queues : ((buffer : ℕ) → queue_of new.items buffer ≡ queue_of store.buffers.items buffer) → (mail_of with_buffers ≡ mail_of store) × IsMail with_buffers
   same-queues same =
@@ -92,7 +94,7 @@ module _ (store : MailStore) (new : Vec (Roomy (List Message)) Global) (is_mail 
 
 -- other marks
 pub made-marks : (store : MailStore) (new : Vec ℕ Global) (copies : ℕ) → IsMail store → IsStrictlyIncreasing new.items → IsMail (record store { marks = new; copies = copies })
-made-marks store new copies is rises = record { holds = is.holds; marks_ascend = rises }
+made-marks store new copies is rises = record { holds = is.holds; marks_ascend = rises; credits_ascend = is.credits_ascend }
 
 -- no messages
 pub no-messages : (queues : Queues) → ((buffer : ℕ) → queue_of queues buffer ≡ []) → Holds queues [] × (inbox_of queues [] ≡ [])
@@ -106,9 +108,20 @@ no-messages queues none =
     nowhere m None has = absurd (nothing-there m (subst (λ xs. Contains xs m) (none m.buffer) has))
     nowhere m (Some line) has = let s : Stalled = record { line = line; message = m } in absurd (nothing-there s has)
 
-pub is-no-mail : (inbox : List InboxMessage) (marks : List ℕ) (networks : List Lasts) (own : Lasts) → inbox ≡ [] → marks ≡ [] → networks ≡ replicate network_count empty → own ≡ empty
-    → record { inbox = inbox; marks = marks; sent = 0; drawn = 0; copies = 0; network_last = networks; local_last = own } ≡ no_mail
-is-no-mail inbox marks networks own a b c d = λ i. record { inbox = a i; marks = b i; sent = 0; drawn = 0; copies = 0; network_last = c i; local_last = d i }
+pub is-no-mail : (inbox : List InboxMessage) (marks : List ℕ) (networks : List Lasts) (own : Lasts) (lent : List Lent) (credits : List Credit)
+    → inbox ≡ [] → marks ≡ [] → networks ≡ replicate network_count empty → own ≡ empty → lent ≡ [] → credits ≡ []
+    → record { inbox = inbox; marks = marks; sent = 0; drawn = 0; copies = 0; network_last = networks; local_last = own; lent = lent; credits = credits } ≡ no_mail
+is-no-mail inbox marks networks own lent credits a b c d e f = λ i. record {
+  inbox = a i;
+  marks = b i;
+  sent = 0;
+  drawn = 0;
+  copies = 0;
+  network_last = c i;
+  local_last = d i;
+  lent = e i;
+  credits = f i;
+}
 
 -- what an act on the front makes of the mail, from what comes of the front
 pub after-pop : (mail after : Mail) (buffer now : ℕ) (o : Option Message) → o ≡ face.front mail buffer now → IfSome o (λ m. after ≡ mail_without mail m) → IfNone o (after ≡ mail) → after ≡ after_act now mail (Pop buffer)

@@ -7,7 +7,7 @@ use Rattle.std.proofs.lemmas.List.Elements.{All-head, All-tail}
 use Rattle.ruby_value.specs.Prelude.{Roomy}
 use Rattle.ctl_face.specs.Prelude.{Lasts, lasts_on, with_last}
 use Rattle.ctl_mail.specs.declared.act.MailAct.{MailAct}
-use Rattle.ctl_mail.specs.declared.act.MailAct.TheVariants.{Arrive, LocalLast, NetworkLast}
+use Rattle.ctl_mail.specs.declared.act.MailAct.TheVariants.{Arrive, Credit, Lend, LocalLast, NetworkLast}
 use Rattle.ctl_mail.specs.declared.store.MailStore.{MailStore}
 use Rattle.ctl_mail.specs.Prelude.{lasts_in, room_of, HasLastRoom, HasPlaces, LosesPlaces}
 use Rattle.ctl_mail.proofs.Edits.{nat-same-or-not, set-here, set-other}
@@ -32,6 +32,8 @@ loses-more old new is = record {
   buffers = λ buffer. (let so : length new.stalls.kept + room_of old.buffers.items buffer ≤ length old.stalls.kept + room_of new.buffers.items buffer + 0 = is.buffers buffer in omega arith);
   networks = λ network n has. is.networks network n (no-more old.network_last.items network (n + 0) (n + 1) (omega arith) has);
   locals = omega (arith, is.locals);
+  lent = omega (arith, is.lent);
+  credits = omega (arith, is.credits);
 }
 
 pub loses-then : (old middle new : MailStore) → LosesPlaces old middle 0 → LosesPlaces middle new 1 → LosesPlaces old new 1
@@ -44,6 +46,8 @@ loses-then old middle new first second = record {
       second.networks network n
       (first.networks network (n + 1) (no-more old.network_last.items network ((n + 1) + 0) (n + 1) (omega arith) has));
   locals = omega (arith, first.locals, second.locals);
+  lent = omega (arith, first.lent, second.lent);
+  credits = omega (arith, first.credits, second.credits);
 }
 
 pub loses-none : (old middle new : MailStore) → LosesPlaces old middle 0 → LosesPlaces middle new 0 → LosesPlaces old new 0
@@ -54,6 +58,8 @@ loses-none old middle new first second = record {
       omega arith;
   networks = λ network n has. second.networks network n (no-more middle.network_last.items network (n + 0) n (omega arith) (first.networks network n has));
   locals = omega (arith, first.locals, second.locals);
+  lent = omega (arith, first.lent, second.lent);
+  credits = omega (arith, first.credits, second.credits);
 }
 
 pub place-left : (old new : MailStore) (n : ℕ) → LosesPlaces old new 1 → (act : MailAct) → HasPlaces old (n + 1) act → HasPlaces new n act
@@ -62,6 +68,8 @@ place-left old new n is (Arrive m) has =
     omega arith
 place-left old new n is (NetworkLast network receiver arrival) has = is.networks network n has
 place-left old new n is (LocalLast buffer arrival) has = omega (arith, is.locals)
+place-left old new n is (Lend receiver buffer) has = omega (arith, is.lent)
+place-left old new n is (Credit c) has = omega (arith, is.credits)
 place-left old new n is _ has = tt
 
 pub place-kept : (old new : MailStore) (n : ℕ) → LosesPlaces old new 0 → (act : MailAct) → HasPlaces old n act → HasPlaces new n act
@@ -71,6 +79,8 @@ place-kept old new n is (Arrive m) has =
 place-kept old new n is (NetworkLast network receiver arrival) has =
     is.networks network n (no-more old.network_last.items network (n + 0) n (omega arith) has)
 place-kept old new n is (LocalLast buffer arrival) has = omega (arith, is.locals)
+place-kept old new n is (Lend receiver buffer) has = omega (arith, is.lent)
+place-kept old new n is (Credit c) has = omega (arith, is.credits)
 place-kept old new n is _ has = tt
 
 -- the last arrivals of one network
@@ -152,6 +162,8 @@ pub place-fewer : (store : MailStore) (n m : ℕ) → n ≤ m → (act : MailAct
 place-fewer store n m le (Arrive x) has = omega arith
 place-fewer store n m le (NetworkLast network receiver arrival) has = no-more store.network_last.items network n m le has
 place-fewer store n m le (LocalLast buffer arrival) has = omega arith
+place-fewer store n m le (Lend receiver buffer) has = omega arith
+place-fewer store n m le (Credit c) has = omega arith
 place-fewer store n m le _ has = tt
 
 -- after the first act there is room for the others

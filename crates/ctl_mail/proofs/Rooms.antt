@@ -6,7 +6,7 @@ use Rattle.ctl_mail.specs.declared.store.MailStore.{MailStore}
 use Rattle.ctl_mail.specs.Prelude.{buffer_count, room_of, HasPlaces, HasPlacesToWake, HasRoomToMake, LosesPlaces, is_stall, is_wake, mark_room}
 use Rattle.ctl_mail.proofs.Places.{places-first, places-rest}
 
-count-cons : {X : Type 0} (p : X → Bool) (x : X) (xs : List X) → count_by p (x ∷ xs) ≡ count_by p (x ∷ []) + count_by p xs
+pub count-cons : {X : Type 0} (p : X → Bool) (x : X) (xs : List X) → count_by p (x ∷ xs) ≡ count_by p (x ∷ []) + count_by p xs
 count-cons p x xs =
     let all : length (filter p (x ∷ xs)) ≡ count_by p (x ∷ xs) = length-filter p (x ∷ xs) in
     let one : length (filter p (x ∷ [])) ≡ count_by p (x ∷ []) = length-filter p (x ∷ []) in

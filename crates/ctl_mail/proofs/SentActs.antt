@@ -1,6 +1,6 @@
 -- Acts that are kept after others: they can be made, the counts are those of the changed mail, and the last arrivals are the newest
 -- that were written. A copy that is kept leaves what is ready as it was.
-use Rattle.std.proofs.Common.{◌≡◌, ◌≢◌, ◌<◌, ◌≤◌, ◌+◌, ◌++◌, ◌&&◌, ℕ, zero, suc, Bool, true, false, cond, Option, None, Some, List, [], ◌∷◌, refl, sym, subst, ap, ◌∙◌, inr, ⊎_elim, eqb, length, Contains, unwrap_or, slice_set, arith}
+use Rattle.std.proofs.Common.{◌≡◌, ◌≢◌, ◌<◌, ◌≤◌, ◌+◌, ◌++◌, ◌&&◌, ℕ, zero, suc, Bool, true, false, cond, Option, None, Some, List, [], ◌∷◌, refl, sym, subst, ap, ◌∙◌, inr, ⊎_elim, eqb, length, Contains, unwrap_or, is_some, slice_set, arith}
 use Rattle.std.specs.List.{All, fold}
 use Rattle.std.specs.FinMap as finite
 use Rattle.std.proofs.lemmas.Bool.{eq-eqb, eqb-true}
@@ -8,17 +8,18 @@ use Rattle.std.proofs.lemmas.List.{length-set}
 use Rattle.std.proofs.lemmas.List.Elements.{All-contains}
 use Rattle.std.proofs.lemmas.List.Sums.{fold-append}
 use Rattle.ruby_value.specs.declared.message.Message.{Message}
-use Rattle.ctl_face.specs.Prelude.{Acts, at_front, InboxMessage, Mail, Lasts, last_at, lasts_on, with_last, incoming_message, mail_with_delivery, mail_without, mail_with_recycled, mail_with_waiting}
+use Rattle.ctl_face.specs.declared.routes.Routes.{Routes}
+use Rattle.ctl_face.specs.Prelude.{Acts, at_front, InboxMessage, Mail, Lasts, last_at, lasts_on, size_of, with_last, with_lent, incoming_message, mail_with_delivery, mail_without, mail_with_recycled, mail_with_waiting}
 use Rattle.ruby_value.specs.declared.message.Delivery.{Delivery}
 use Rattle.ctl_face.specs.Front as face
 use Rattle.ctl_face.specs.Inbox.{with_message}
 use Rattle.ctl_face.proofs.LastArrivals.{inserted_elsewhere, inserted_here, not_moved}
 use Rattle.ctl_face.proofs.OneKey.{with_message-contains}
 use Rattle.ctl_mail.specs.declared.act.MailAct.{MailAct}
-use Rattle.ctl_mail.specs.declared.act.MailAct.TheVariants.{Arrive, Count, LocalLast, Mark, NetworkLast, Pop, Recycle, Stall, Wake, WakeAll}
+use Rattle.ctl_mail.specs.declared.act.MailAct.TheVariants.{Arrive, Count, Credit, Lend, LocalLast, Mark, NetworkLast, Pop, Recycle, Stall, Wake, WakeAll}
 use Rattle.ctl_mail.specs.declared.moves.Move.{Move}
 use Rattle.ctl_mail.specs.declared.sent.SendCounts.{SendCounts}
-use Rattle.ctl_mail.specs.Prelude.{IsNewIn, copy_acts, counts_after, newer_local, newer_network, told_with_copy, AreMakeable, CopiesFit, CountsFit, IsMakeable, IsSeen, Told, after_act, after_acts, changed_mail, counts_in, mail_at_front}
+use Rattle.ctl_mail.specs.Prelude.{IsNewIn, LentFit, copy_acts, counts_after, newer_local, newer_network, told_with_copy, AreMakeable, CopiesFit, CountsFit, IsMakeable, IsSeen, Told, after_act, after_acts, changed_mail, counts_in, mail_at_front}
 
 pub after-both : (now : ℕ) (mail : Mail) (xs ys : List MailAct) → after_acts now mail (xs ++ ys) ≡ after_acts now (after_acts now mail xs) ys
 unfolding after_acts
@@ -42,11 +43,11 @@ makeable-both now mail [] ys first then = subst (λ (m : Mail). AreMakeable now 
 makeable-both now mail (x ∷ xs) ys first then =
     (first.0, makeable-both now (after_act now mail x) xs ys first.1 (subst (λ (m : Mail). AreMakeable now m ys) (after-first-act now mail x xs) then))
 
-pub makeable-one : (now : ℕ) (mail : Mail) (act : MailAct) → IsMakeable mail act → AreMakeable now mail (act ∷ [])
+pub makeable-one : (now : ℕ) (mail : Mail) (act : MailAct) → IsMakeable now mail act → AreMakeable now mail (act ∷ [])
 unfolding AreMakeable
 makeable-one now mail act is = (is, tt)
 
-pub makeable-first : (now : ℕ) (mail : Mail) (act : MailAct) (rest : List MailAct) → AreMakeable now mail (act ∷ rest) → IsMakeable mail act × AreMakeable now (after_act now mail act) rest
+pub makeable-first : (now : ℕ) (mail : Mail) (act : MailAct) (rest : List MailAct) → AreMakeable now mail (act ∷ rest) → IsMakeable now mail act × AreMakeable now (after_act now mail act) rest
 unfolding AreMakeable
 makeable-first now mail act rest are = are
 
@@ -62,17 +63,18 @@ fits-more mail old ys counts acts moves fits are is = record {
   counts = is ∙ ap counts_in (sym (after-both old.cycle mail old.log ys));
 }
 
--- an act that isn't a copy
+-- an act that isn't of a copy
 abbrev pub IsUncounted : MailAct → Type 0
 IsUncounted (Count drawn) = ⊥
 IsUncounted (Arrive m) = ⊥
+IsUncounted (Lend receiver buffer) = ⊥
 IsUncounted _ = Unit {0}
 
 counts-at-front : (mail : Mail) (change : Message → Mail) → ((m : Message) → counts_in (change m) ≡ counts_in mail) → (o : Option Message) → counts_in (mail_at_front mail (at_front change o)) ≡ counts_in mail
 counts-at-front mail change same None = refl
 counts-at-front mail change same (Some m) = same m
 
-counts-kept : (now : ℕ) (mail : Mail) (act : MailAct) → IsUncounted act → counts_in (after_act now mail act) ≡ counts_in mail
+pub counts-kept : (now : ℕ) (mail : Mail) (act : MailAct) → IsUncounted act → counts_in (after_act now mail act) ≡ counts_in mail
 counts-kept now mail (Pop buffer) is = counts-at-front mail (mail_without mail) (λ m. refl) (face.front mail buffer now)
 counts-kept now mail (Recycle buffer arrival) is = counts-at-front mail (mail_with_recycled mail arrival) (λ m. refl) (face.front mail buffer now)
 counts-kept now mail (Mark cycle) is = refl
@@ -81,52 +83,81 @@ counts-kept now mail (Wake line) is = refl
 counts-kept now mail WakeAll is = refl
 counts-kept now mail (NetworkLast network receiver arrival) is = refl
 counts-kept now mail (LocalLast buffer arrival) is = refl
+counts-kept now mail (Credit c) is = refl
 counts-kept now mail (Arrive m) is = absurd is
 counts-kept now mail (Count drawn) is = absurd is
+counts-kept now mail (Lend receiver buffer) is = absurd is
 
-makeable-uncounted : (mail : Mail) (act : MailAct) → IsUncounted act → IsMakeable mail act
-makeable-uncounted mail (Arrive m) is = absurd is
-makeable-uncounted mail (Count drawn) is = absurd is
-makeable-uncounted mail _ is = tt
+-- a credit comes for a later cycle
+abbrev pub IsLater : ℕ → MailAct → Type 0
+IsLater now (Credit c) = now < c.arrival
+IsLater now _ = Unit {0}
 
-pub fits-act : (mail : Mail) (old : Told) (act : MailAct) (acts : Acts) (moves : List Move) → IsUncounted act → CopiesFit mail old → CopiesFit mail (record old { log = old.log ++ act ∷ []; acts = acts; moves = moves })
-fits-act mail old act acts moves is fits =
+makeable-uncounted : (now : ℕ) (mail : Mail) (act : MailAct) → IsUncounted act → IsLater now act → IsMakeable now mail act
+makeable-uncounted now mail (Arrive m) is later = absurd is
+makeable-uncounted now mail (Count drawn) is later = absurd is
+makeable-uncounted now mail (Lend receiver buffer) is later = absurd is
+makeable-uncounted now mail (Credit c) is later = later
+makeable-uncounted now mail _ is later = tt
+
+pub fits-act : (mail : Mail) (old : Told) (act : MailAct) (acts : Acts) (moves : List Move) → IsUncounted act → IsLater old.cycle act → CopiesFit mail old → CopiesFit mail (record old { log = old.log ++ act ∷ []; acts = acts; moves = moves })
+fits-act mail old act acts moves is later fits =
     let before = changed_mail mail old in
-    fits-more mail old (act ∷ []) old.counts acts moves fits (makeable-one old.cycle before act (makeable-uncounted before act is))
+    fits-more mail old (act ∷ []) old.counts acts moves fits (makeable-one old.cycle before act (makeable-uncounted old.cycle before act is later))
     (fits.counts ∙ (sym (counts-kept old.cycle before act is) ∙ ap counts_in (sym (after-one old.cycle before act))))
 
 pub fits-none : (mail : Mail) (cycle : ℕ) (acts : Acts) → CopiesFit mail (record { cycle = cycle; counts = counts_in mail; log = []; acts = acts; moves = [] })
 fits-none mail cycle acts = record { makeable = makeable-none cycle mail; counts = ap counts_in (sym (after-no-act cycle mail)) }
 
--- a copy
-abbrev pub copied_mail : Bool → Bool → Mail → Message → Mail
-copied_mail mine drawn mail m =
-    record (mail_with_delivery mine mail m) { sent = mail.sent + 1; drawn = cond drawn (mail.drawn + 1) mail.drawn; copies = mail.copies + 1 }
+-- a copy to a receiver, which may be the sender, to a buffer that may have a size
+abbrev pub copied_mail : (mine sized drawn : Bool) → Mail → (receiver : ℕ) → Message → Mail
+copied_mail mine sized drawn mail receiver m = record (mail_with_delivery mine mail m) {
+  sent = mail.sent + 1;
+  drawn = cond drawn (mail.drawn + 1) mail.drawn;
+  copies = mail.copies + 1;
+  lent = cond sized (with_lent mail.lent receiver m.buffer) mail.lent;
+}
 
-after-copy-by : (now : ℕ) (mail : Mail) (mine drawn : Bool) (m : Message) → after_acts now mail (Count drawn ∷ cond mine (Arrive m ∷ []) []) ≡ copied_mail mine drawn mail m
+-- whether the buffer of a copy has a size
+abbrev pub is_sized : Routes → Delivery Message → Bool
+is_sized routes c = is_some (size_of routes c.receiver c.message.buffer)
+
+abbrev acts_of_copy : (mine sized drawn : Bool) → (receiver : ℕ) → Message → List MailAct
+acts_of_copy mine sized drawn receiver m = Count drawn ∷ (cond mine (Arrive m ∷ []) [] ++ cond sized (Lend receiver m.buffer ∷ []) [])
+
+after-copy-by : (now : ℕ) (mail : Mail) (mine sized drawn : Bool) (receiver : ℕ) (m : Message) → after_acts now mail (acts_of_copy mine sized drawn receiver m) ≡ copied_mail mine sized drawn mail receiver m
 unfolding after_acts
-after-copy-by now mail true drawn m = refl
-after-copy-by now mail false drawn m = refl
+after-copy-by now mail true true drawn receiver m = refl
+after-copy-by now mail true false drawn receiver m = refl
+after-copy-by now mail false true drawn receiver m = refl
+after-copy-by now mail false false drawn receiver m = refl
 
-counts-copied : (mail : Mail) (mine drawn : Bool) (m : Message) → counts_after drawn (counts_in mail) ≡ counts_in (copied_mail mine drawn mail m)
-counts-copied mail mine drawn m = refl
+counts-copied : (mail : Mail) (mine sized drawn : Bool) (receiver : ℕ) (m : Message) → counts_after drawn (counts_in mail) ≡ counts_in (copied_mail mine sized drawn mail receiver m)
+counts-copied mail mine sized drawn receiver m = refl
 
-pub after-copy : (mail : Mail) (me : ℕ) (drawn : Bool) (c : Delivery Message) (old : Told) → changed_mail mail (told_with_copy me drawn c old) ≡ copied_mail (eqb c.receiver me) drawn (changed_mail mail old) c.message
-after-copy mail me drawn c old =
-    after-both old.cycle mail old.log (copy_acts me drawn c) ∙ after-copy-by old.cycle (changed_mail mail old) (eqb c.receiver me) drawn c.message
+pub after-copy : (mail : Mail) (me : ℕ) (routes : Routes) (drawn : Bool) (c : Delivery Message) (old : Told)
+    → changed_mail mail (told_with_copy me routes drawn c old) ≡ copied_mail (eqb c.receiver me) (is_sized routes c) drawn (changed_mail mail old) c.receiver c.message
+after-copy mail me routes drawn c old =
+    after-both old.cycle mail old.log (copy_acts me routes drawn c) ∙ after-copy-by old.cycle (changed_mail mail old) (eqb c.receiver me) (is_sized routes c) drawn c.receiver c.message
 
-makeable-copy-by : (now : ℕ) (mail : Mail) (mine drawn : Bool) (m : Message) → CountsFit mail → (mine ≡ true → IsNewIn mail m.number) → AreMakeable now mail (Count drawn ∷ cond mine (Arrive m ∷ []) [])
+makeable-copy-by : (now : ℕ) (mail : Mail) (mine sized drawn : Bool) (receiver : ℕ) (m : Message) → CountsFit mail → LentFit mail → (mine ≡ true → IsNewIn mail m.number)
+    → AreMakeable now mail (acts_of_copy mine sized drawn receiver m)
 unfolding AreMakeable
-makeable-copy-by now mail true drawn m counts new = (counts, (new refl, tt))
-makeable-copy-by now mail false drawn m counts new = (counts, tt)
+makeable-copy-by now mail true true drawn receiver m counts lent new = (counts, (new refl, (lent, tt)))
+makeable-copy-by now mail true false drawn receiver m counts lent new = (counts, (new refl, tt))
+makeable-copy-by now mail false true drawn receiver m counts lent new = (counts, (lent, tt))
+makeable-copy-by now mail false false drawn receiver m counts lent new = (counts, tt)
 
-pub fits-copy : (mail : Mail) (me : ℕ) (drawn : Bool) (c : Delivery Message) (old : Told) → CountsFit (changed_mail mail old) → (eqb c.receiver me ≡ true → IsNewIn (changed_mail mail old) c.message.number)
-    → CopiesFit mail old → CopiesFit mail (told_with_copy me drawn c old)
-fits-copy mail me drawn c old counts new fits =
+pub fits-copy : (mail : Mail) (me : ℕ) (routes : Routes) (drawn : Bool) (c : Delivery Message) (old : Told) → CountsFit (changed_mail mail old) → LentFit (changed_mail mail old)
+    → (eqb c.receiver me ≡ true → IsNewIn (changed_mail mail old) c.message.number)
+    → CopiesFit mail old → CopiesFit mail (told_with_copy me routes drawn c old)
+fits-copy mail me routes drawn c old counts lent new fits =
     let before = changed_mail mail old in
-    fits-more mail old (copy_acts me drawn c) (counts_after drawn old.counts) (told_with_copy me drawn c old).acts old.moves fits
-    (makeable-copy-by old.cycle before (eqb c.receiver me) drawn c.message counts new)
-    (ap (counts_after drawn) fits.counts ∙ (counts-copied before (eqb c.receiver me) drawn c.message ∙ ap counts_in (sym (after-copy-by old.cycle before (eqb c.receiver me) drawn c.message))))
+    let mine = eqb c.receiver me in
+    let sized = is_sized routes c in
+    fits-more mail old (copy_acts me routes drawn c) (counts_after drawn old.counts) (told_with_copy me routes drawn c old).acts old.moves fits
+    (makeable-copy-by old.cycle before mine sized drawn c.receiver c.message counts lent new)
+    (ap (counts_after drawn) fits.counts ∙ (counts-copied before mine sized drawn c.receiver c.message ∙ ap counts_in (sym (after-copy-by old.cycle before mine sized drawn c.receiver c.message))))
 
 -- a message that arrives later isn't seen
 module _ (cycle : ℕ) (inbox : List InboxMessage) (m : Message) (later : cycle < m.arrival) (fresh : All (λ (o : InboxMessage). o.message.number ≢ m.number) inbox) where
@@ -204,6 +235,8 @@ module _ (network receiver base now : ℕ) where
   one-last mail (Arrive m) found within is = is
   one-last mail (Count drawn) found within is = is
   one-last mail (LocalLast buffer arrival) found within is = is
+  one-last mail (Lend to buffer) found within is = is
+  one-last mail (Credit c) found within is = is
   one-last mail (NetworkLast other to arrival) found within is = written-last mail other to arrival found within is (eqb other network) refl (eqb to receiver) refl
 
   one-length : (mail : Mail) (act : MailAct) → length (after_act now mail act).network_last ≡ length mail.network_last
@@ -216,6 +249,8 @@ module _ (network receiver base now : ℕ) where
   one-length mail (Arrive m) = refl
   one-length mail (Count drawn) = refl
   one-length mail (LocalLast buffer arrival) = refl
+  one-length mail (Lend to buffer) = refl
+  one-length mail (Credit c) = refl
   one-length mail (NetworkLast other to arrival) = length-set mail.network_last other (finite.insert (lasts_on mail.network_last other) to arrival)
 
   pub last-after : (mail : Mail) (log : List MailAct) (found : Option ℕ) → network < length mail.network_last → LastIs mail found → LastIs (after_acts now mail log) (fold (newer_network network receiver) found log)
@@ -255,6 +290,8 @@ module _ (buffer base now : ℕ) where
   one-local mail (Arrive m) found is = is
   one-local mail (Count drawn) found is = is
   one-local mail (NetworkLast other to arrival) found is = is
+  one-local mail (Lend to at) found is = is
+  one-local mail (Credit c) found is = is
   one-local mail (LocalLast other arrival) found is = written-local mail other arrival found is (eqb other buffer) refl
 
   pub local-after : (mail : Mail) (log : List MailAct) (found : Option ℕ) → LocalIs mail found → LocalIs (after_acts now mail log) (fold (newer_local buffer) found log)

@@ -1,5 +1,5 @@
 -- Some messages of the changed inbox wait under a line from now on, or wait no longer: the changes still say what is left.
-use Rattle.std.proofs.Common.{◌≡◌, ◌≢◌, ◌⊎◌, ◌++◌, ℕ, Option, None, Some, List, [], sym, subst, ap, ◌∙◌, ⊎_elim, Contains}
+use Rattle.std.proofs.Common.{◌≡◌, ◌⊎◌, ◌++◌, ℕ, Option, None, Some, List, sym, subst, ap, ◌∙◌, ⊎_elim, Contains}
 use Rattle.std.proofs.lemmas.List.Elements.{Contains-append_cases}
 use Rattle.ruby_value.specs.declared.message.MsgNo.{MsgNo}
 use Rattle.stall_map.specs.declared.stalled.Stalled.{Stalled}
@@ -27,7 +27,7 @@ module _ (queues : Queues) (stalled : List Stalled) (old new : Told) (numbers : 
     (holds : Holds queues stalled) (reflects : Reflects queues stalled old before) (is : IsShifted before after old.cycle numbers w)
     (cycle : new.cycle ≡ old.cycle) (moves : new.moves ≡ old.moves ++ moves_to w numbers)
     (gone_to : (n : MsgNo) → IsGone old.acts n → IsGone new.acts n) (gone_from : (n : MsgNo) → IsGone new.acts n → IsGone old.acts n)
-    (none_woken : new.acts.woken ≡ [] → (old.acts.woken ≡ []) × ((n : MsgNo) → Contains numbers n → w ≢ None)) where
+    (woken_on : (n : MsgNo) → Contains old.acts.woken n → Contains new.acts.woken n) (woken_in : w ≡ None → (n : MsgNo) → Contains numbers n → Contains new.acts.woken n) where
   now-in : (n : MsgNo) (b : Option ℕ) → Contains numbers n → waiting_after n new.moves b ≡ w
   now-in n b has = ap (λ ms. waiting_after n ms b) moves ∙ waits-in n old.moves w numbers b has
 
@@ -87,11 +87,11 @@ module _ (queues : Queues) (stalled : List Stalled) (old new : Told) (numbers : 
         not_gone = λ gone. l.not_gone (gone_to o.message.number gone);
       })) none
 
-  still-waits : new.acts.woken ≡ [] → (s : Stalled) → Contains stalled s → waiting_after s.message.number new.moves (Some s.line) ≢ None
-  still-waits none s has =
+  was-woken : (s : Stalled) → Contains stalled s → waiting_after s.message.number new.moves (Some s.line) ≡ None → Contains new.acts.woken s.message.number
+  was-woken s has back =
       ⊎_elim
-      (λ in_numbers. λ back. (none_woken none).1 s.message.number in_numbers (sym (now-in s.message.number (Some s.line) in_numbers) ∙ back))
-      (λ out. λ back. reflects.none_back (none_woken none).0 s has (sym (now-out s.message.number (Some s.line) out) ∙ back))
+      (λ in_numbers. woken_in (sym (now-in s.message.number (Some s.line) in_numbers) ∙ back) s.message.number in_numbers)
+      (λ out. woken_on s.message.number (reflects.back s has (sym (now-out s.message.number (Some s.line) out) ∙ back)))
       (in-or-not numbers s.message.number)
 
   of-move : (m : Move) → Contains (old.moves ++ moves_to w numbers) m → (o : InboxMessage) × Has queues stalled o × (o.message.number ≡ m.number)
@@ -121,6 +121,6 @@ module _ (queues : Queues) (stalled : List Stalled) (old new : Told) (numbers : 
           (λ out. back-out o seen l out)
           (in-or-not numbers o.message.number),
     );
-    none_back = still-waits;
+    back = was-woken;
     moved = λ m has. of-move m (subst (λ ms. Contains ms m) moves has);
   }

@@ -91,8 +91,8 @@ are-of-stall store old buffer line m holds is are =
       subst (λ (after : Mail). Reflects store.buffers.items store.stalls.kept new after.inbox) (sym (stalled-mail (mail_of store) old buffer line m is))
           (shifted store.buffers.items store.stalls.kept old new (m.number ∷ []) (Some line) mail.inbox (changed_message mail.inbox m.number (message_waiting_under line))
           holds reflects (one-shifted mail.inbox old.cycle line m reflects.ascends free.held free.arrived) refl refl (λ n gone. gone) (λ n gone. gone)
-          (λ none. (none, λ n has. some-is line))),
-      fits-act (mail_of store) old (Stall buffer line) new.acts new.moves tt are.1,
+          (λ n has. has) (λ none. absurd (some-is line none))),
+      fits-act (mail_of store) old (Stall buffer line) new.acts new.moves tt tt are.1,
     )
 
 -- a message waits in the mail as it is kept
@@ -171,7 +171,7 @@ module _ (store : MailStore) (stalls : Roomy (List Stalled)) (line : ℕ) (m : M
   made-stall put home =
       let so = waits-in-it store.buffers.items store.stalls.kept stalls.kept line m is_mail.holds (fresh store store.buffers is_mail refl m.number new) put home in (
         ap (λ xs. record (mail_of store) { inbox = xs }) so.1,
-        record { holds = so.0; marks_ascend = is_mail.marks_ascend },
+        record { holds = so.0; marks_ascend = is_mail.marks_ascend; credits_ascend = is_mail.credits_ascend },
       )
 
 -- one more waits at most

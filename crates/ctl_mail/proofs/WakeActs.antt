@@ -1,7 +1,8 @@
 -- Messages that wait are woken, as a change: which numbers are found, and what stays so of the changes.
 use Rattle.std.proofs.Common.{◌≡◌, ◌≢◌, ◌⊎◌, ◌↔◌, ◌++◌, ℕ, Bool, true, false, cond, Option, None, Some, List, [], ◌∷◌, refl, sym, subst, ap, ◌∙◌, inl, inr, ⊎_elim, Contains, IsTrue, filter, map, arith}
+use Rattle.std.proofs.lemmas.Bool.{eq-eqb, eqb-true}
 use Rattle.std.proofs.lemmas.Bool.Decides.{nat_tests}
-use Rattle.std.proofs.lemmas.List.Elements.{All-contains, All-map}
+use Rattle.std.proofs.lemmas.List.Elements.{All-contains, All-map, Contains-append_left, Contains-append_right}
 use Rattle.std.proofs.lemmas.List.Kept.{AllPairs-cons, AllPairs-filter}
 use Rattle.std.specs.List.{AllPairs}
 use Rattle.ruby_value.specs.declared.message.MsgNo.{MsgNo}
@@ -15,17 +16,14 @@ use Rattle.ctl_face.proofs.Inboxes.{Before, ascend-map}
 use Rattle.ctl_mail.specs.declared.moves.Waking.{Waking}
 use Rattle.ctl_mail.specs.declared.moves.Waking.TheVariants.{All, Line}
 use Rattle.ctl_mail.specs.declared.store.MailStore.{MailStore}
-use Rattle.ctl_mail.specs.Prelude.{Holds, IsAt, mail_of, view_woken, act_of, is_woken, moves_back, waiting_after, Adds, NumbersRise, Queues, AreOf, IsGone, IsSeen, IsWokenIn, IsWokenMoved, IsWokenStalled, Reflects, Told, after_act, changed_mail, changed_view}
-use Rattle.ctl_mail.proofs.SentActs.{IsUncounted, fits-act}
+use Rattle.ctl_mail.specs.Prelude.{Holds, IsAt, mail_of, view_woken, act_of, is_woken, moves_back, waiting_after, Adds, NumbersRise, Queues, AreOf, IsGone, IsSeen, IsWoken, IsWokenIn, IsWokenKept, IsWokenMoved, IsWokenStalled, IsWokenUnder, Reflects, Told, after_act, changed_mail, changed_view}
+use Rattle.ctl_mail.proofs.SentActs.{IsLater, IsUncounted, fits-act}
 use Rattle.ctl_mail.proofs.Acts.{after-more}
 use Rattle.ctl_mail.proofs.AfterMoves.{has-entry, with-entry}
+use Rattle.ctl_mail.proofs.Edits.{nat-same-or-not}
+use Rattle.ctl_mail.proofs.Founds.{woken-waits}
 use Rattle.ctl_mail.proofs.Inboxes.{one-of-ascending}
 use Rattle.ctl_mail.proofs.Shifts.{IsShifted, shifted, waiting_so}
-
-pub woken-waits : (waking : Waking) (w : Option ℕ) → is_woken waking w ≡ true → w ≢ None
-woken-waits (Line line) None is none = absurd (cc is)
-woken-waits All None is none = absurd (cc is)
-woken-waits waking (Some l) is none = cc none
 
 -- a list whose elements are in pairs, changed
 pub pairs-map : {X Y : Type 0} (R : Y → Y → Type 0) (f : X → Y) (xs : List X) → AllPairs (λ a b. R (f a) (f b)) xs → AllPairs R (map f xs)
@@ -218,6 +216,55 @@ module _ (queues : Queues) (stalled : List Stalled) (told : Told) (inbox : List 
     λ hit. (adds.has n).1 (inr (hit-found n hit)),
   )
 
+-- of those that were stalled before, the ones under the line are enough: what waits elsewhere than before was moved
+module _ (stalled : List Stalled) (told : Told) where
+  under-in : (line : ℕ) (n : MsgNo) → IsWokenUnder stalled told line n → IsWokenStalled stalled told (Line line) n
+  under-in line n u = record {
+    it = u.it;
+    held = u.held;
+    is = subst (λ l. IsWoken told (Line line) u.it.message.number (Some l)) (sym u.under) u.is;
+    number_is = u.number_is;
+  }
+
+  line-is : (line : ℕ) (w : Option ℕ) → is_woken (Line line) w ≡ true → w ≡ Some line
+  line-is line None is = absurd (cc is)
+  line-is line (Some l) is = ap (λ k. Some k) (eqb-true l line is)
+
+  in-under : (line : ℕ) (n : MsgNo) → IsWokenStalled stalled told (Line line) n → IsWokenUnder stalled told line n ⊎ IsWokenMoved told.moves told (Line line) n
+  in-under line n s =
+      let number = s.it.message.number in
+      let waits : waiting_after number told.moves (Some s.it.line) ≡ Some line = line-is line (waiting_after number told.moves (Some s.it.line)) s.is.woken in
+      ⊎_elim
+      (λ (same : s.it.line ≡ line). inl (record {
+        it = s.it;
+        held = s.held;
+        under = same;
+        is = subst (λ l. IsWoken told (Line line) number (Some l)) same s.is;
+        number_is = s.number_is;
+      }))
+      (λ (other : s.it.line ≢ line).
+      let so = has-entry number told.moves (Some s.it.line) (λ stays. let it : Some line ≡ Some s.it.line = sym waits ∙ stays in other (sym (cc it))) in
+      let now : waiting_after so.0.number told.moves None ≡ Some line =
+      ap (λ (k : MsgNo). waiting_after k told.moves None) so.2 ∙ (with-entry number told.moves so.0 None (Some s.it.line) so.1 so.2 ∙ waits) in
+      inr (record {
+        it = so.0;
+        held = so.1;
+        is = record {
+          woken = ap (is_woken (Line line)) now ∙ eq-eqb line line refl;
+          not_gone = λ gone. s.is.not_gone (subst (IsGone told.acts) so.2 gone);
+        };
+        number_is = so.2 ∙ s.number_is;
+      }))
+      (nat-same-or-not s.it.line line)
+
+  pub kept-in : (waking : Waking) (n : MsgNo) → IsWokenKept stalled told waking n ⊎ IsWokenMoved told.moves told waking n → IsWokenIn stalled told waking n
+  kept-in (Line line) n either = ⊎_elim (λ u. inl (under-in line n u)) (λ m. inr m) either
+  kept-in All n either = either
+
+  pub in-kept : (waking : Waking) (n : MsgNo) → IsWokenIn stalled told waking n → IsWokenKept stalled told waking n ⊎ IsWokenMoved told.moves told waking n
+  in-kept (Line line) n either = ⊎_elim (in-under line n) (λ m. inr m) either
+  in-kept All n either = either
+
 abbrev pub told_woken : Told → Waking → List MsgNo → Told
 told_woken old waking numbers = record old {
   log = old.log ++ act_of waking ∷ [];
@@ -229,13 +276,13 @@ uncounted : (waking : Waking) → IsUncounted (act_of waking)
 uncounted (Line line) = tt
 uncounted All = tt
 
+no-credit : (now : ℕ) (waking : Waking) → IsLater now (act_of waking)
+no-credit now (Line line) = tt
+no-credit now All = tt
+
 pub act-wakes : (now : ℕ) (mail : Mail) (waking : Waking) → after_act now mail (act_of waking) ≡ woken_mail mail (λ (o : InboxMessage). is_woken waking o.waiting)
 act-wakes now mail (Line line) = refl
 act-wakes now mail All = refl
-
-both-none : {X : Type 0} (xs ys : List X) → xs ++ ys ≡ [] → (xs ≡ []) × (ys ≡ [])
-both-none [] ys is = (refl, is)
-both-none (x ∷ xs) ys is = absurd (cc is)
 
 module _ (store : MailStore) (old : Told) (waking : Waking) (numbers : List MsgNo) (holds : Holds store.buffers.items store.stalls.kept) (are : AreOf store old)
     (adds : Adds [] (IsWokenIn store.stalls.kept old waking) numbers) where
@@ -265,6 +312,6 @@ module _ (store : MailStore) (old : Told) (waking : Waking) (numbers : List MsgN
         subst (λ (after : Mail). Reflects store.buffers.items store.stalls.kept new after.inbox) (sym woken-is)
             (shifted store.buffers.items store.stalls.kept old new numbers None mail.inbox (woken_mail mail tested).inbox holds reflects
             (woken-shifted mail.inbox tested numbers old.cycle reflects.ascends hits (λ o is. woken-waits waking o.waiting is)) refl refl (λ n gone. gone) (λ n gone. gone)
-            (λ none. let so = both-none old.acts.woken numbers none in (so.0, λ n has. absurd (nothing-there n (subst (λ ns. Contains ns n) so.1 has))))),
-        fits-act (mail_of store) old (act_of waking) new.acts new.moves (uncounted waking) are.1,
+            (λ n has. Contains-append_left old.acts.woken numbers n has) (λ _ n has. Contains-append_right old.acts.woken numbers n has)),
+        fits-act (mail_of store) old (act_of waking) new.acts new.moves (uncounted waking) (no-credit old.cycle waking) are.1,
       )

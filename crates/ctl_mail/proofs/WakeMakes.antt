@@ -169,7 +169,7 @@ pub made-wake : (store : MailStore) (buffers : Vec (Roomy (List Message)) Global
 made-wake store buffers stalls line is has count others =
     let so = woken-held store.buffers.items store.stalls.kept line is.holds buffers.items has count in (
       ap (λ xs. record (mail_of store) { inbox = inbox_of buffers.items xs }) others ∙ ap (λ xs. record (mail_of store) { inbox = xs }) so.1,
-      record { holds = subst (Holds buffers.items) (sym others) so.0; marks_ascend = is.marks_ascend },
+      record { holds = subst (Holds buffers.items) (sym others) so.0; marks_ascend = is.marks_ascend; credits_ascend = is.credits_ascend },
     )
 
 -- waking one line after another

@@ -1,4 +1,6 @@
 pub mod Census
+pub mod Credits
+pub mod Dequeued
 pub mod Inbox
 pub mod Lasts
 pub mod Least
@@ -8,8 +10,10 @@ pub mod Marks
 pub mod Moves
 pub mod Numbers
 pub mod Queues
+pub mod Parcels
 pub mod Room
 pub mod Sends
 pub mod Sent
+pub mod Slots
 pub mod Told
 pub mod Prelude

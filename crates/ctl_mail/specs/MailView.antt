@@ -3,7 +3,7 @@
 use Rattle.std.specs.Prelude.{◌≡◌, ◌+◌, ◌++◌, ℕ, ℤ, Bool, true, [], ◌∷◌, Result, Ok, Err, is_some}
 use Rattle.ruby_value.specs.declared.fault.Fault.{Fault}
 use Rattle.ruby_value.specs.declared.message.MsgNo.{MsgNo}
-use Rattle.ctl_face.specs.Prelude.{Acts, AtFront, InboxMessage, Mail, LocalView, mail_with_mark, popped_mail, recycled_mail, stalled_mail, is_under, numbers_where, woken_mail}
+use Rattle.ctl_face.specs.Prelude.{Actor, Acts, AtFront, InboxMessage, Mail, LocalView, acts_after_dequeue, dequeued_mail, mail_with_mark, recycled_mail, stalled_mail, is_under, numbers_where, woken_mail}
 use Rattle.ctl_face.specs.declared.trouble.Trouble.{Trouble}
 use Rattle.ctl_face.specs.declared.trouble.Trouble.TheVariants as trouble
 
@@ -16,9 +16,8 @@ abbrev pub view_after_front : (MsgNo → Acts) → Result AtFront Fault → Resu
 view_after_front told (Ok a) = Ok (record { mail = a.mail; acts = told a.number })
 view_after_front told (Err fault) = Err fault
 
-abbrev pub view_popped : MailView → ℕ → ℕ → Result MailView Fault
-view_popped v buffer now =
-    view_after_front (λ (number : MsgNo). record v.acts { consumed = v.acts.consumed ++ number ∷ [] }) (popped_mail v.mail buffer now)
+abbrev pub view_popped : Actor → MailView → ℕ → ℕ → Result MailView Fault
+view_popped actor v buffer now = view_after_front (acts_after_dequeue actor buffer now v.acts) (dequeued_mail actor v.mail buffer now)
 
 abbrev pub view_recycled : MailView → ℕ → ℤ → ℕ → Result MailView Fault
 view_recycled v buffer latency now =

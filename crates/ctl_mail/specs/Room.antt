@@ -1,16 +1,22 @@
--- The room that a mail has: for how many more messages, marks and last arrivals.
+-- The room that a mail has: for how many more messages, marks, last arrivals, slots in use and credits.
 use Rattle.std.specs.Prelude.{◌+◌, ◌-◌, ◌≤◌, ◌<◌, ℕ, Bool, true, false, List, IfSome, count_by, length, slice_get, vec_capacity, vec_len}
 use Rattle.std.specs.List.{All}
 use Rattle.ruby_value.specs.Prelude.{Roomy}
 use Rattle.ctl_face.specs.Prelude.{Lasts}
 use Rattle.ctl_mail.specs.declared.act.MailAct.{MailAct}
-use Rattle.ctl_mail.specs.declared.act.MailAct.TheVariants.{Arrive, LocalLast, NetworkLast, Stall, Wake, WakeAll}
+use Rattle.ctl_mail.specs.declared.act.MailAct.TheVariants.{Arrive, Credit, Lend, LocalLast, NetworkLast, Stall, Wake, WakeAll}
 use Rattle.ctl_mail.specs.declared.store.MailStore.{MailStore}
 use Rattle.ctl_mail.specs.Queues.{room_of}
 use Rattle.ctl_mail.specs.Told.{Told}
 
 abbrev pub mark_room : MailStore → ℕ
 mark_room store = vec_capacity store.marks - vec_len store.marks
+
+abbrev pub lent_room : MailStore → ℕ
+lent_room store = vec_capacity store.lent - vec_len store.lent
+
+abbrev pub credit_room : MailStore → ℕ
+credit_room store = vec_capacity store.credits - vec_len store.credits
 
 abbrev pub is_stall : MailAct → Bool
 is_stall (Stall buffer line) = true
@@ -34,6 +40,8 @@ abbrev pub HasPlaces : MailStore → ℕ → MailAct → Type 0
 HasPlaces store n (Arrive m) = length store.stalls.kept + n ≤ room_of store.buffers.items m.buffer
 HasPlaces store n (NetworkLast network receiver arrival) = HasLastRoom store.network_last.items network n
 HasPlaces store n (LocalLast buffer arrival) = n ≤ store.local_last.room
+HasPlaces store n (Lend receiver buffer) = n ≤ lent_room store
+HasPlaces store n (Credit c) = n ≤ credit_room store
 HasPlaces store n _ = Unit {0}
 
 -- room for acts: for a mark each and one more, for each message that they stall, for what they write beside these, and where they
@@ -55,14 +63,17 @@ pub record LosesPlaces (old new : MailStore) (less : ℕ) : Type 0 where
       → length new.stalls.kept + room_of old.buffers.items buffer ≤ length old.stalls.kept + room_of new.buffers.items buffer + less
   pub networks : (network n : ℕ) → HasLastRoom old.network_last.items network (n + less) → HasLastRoom new.network_last.items network n
   pub locals : old.local_last.room ≤ new.local_last.room + less
+  pub lent : lent_room old ≤ lent_room new + less
+  pub credits : credit_room old ≤ credit_room new + less
 
--- room for so many messages in each buffer, each with its mark, and for one mark beside them
-pub record HasRoomFor (store : MailStore) (messages : ℕ) : Type 0 where
-  pub buffers : (buffer : ℕ) → buffer < length store.buffers.items → messages ≤ room_of store.buffers.items buffer
-  pub marks : messages < mark_room store
+-- room for so many parcels, be they messages in one buffer or credits, each with its mark, and for one mark beside them
+pub record HasRoomFor (store : MailStore) (parcels : ℕ) : Type 0 where
+  pub buffers : (buffer : ℕ) → buffer < length store.buffers.items → parcels ≤ room_of store.buffers.items buffer
+  pub credits : parcels ≤ credit_room store
+  pub marks : parcels < mark_room store
 
--- no room is lost: for a mark, for messages that arrive, and for the changes of any scan
+-- no room is lost: for a mark, for parcels that arrive, and for the changes of any scan
 pub record KeepsRoom (old new : MailStore) : Type 0 where
   pub marks : mark_room old ≤ mark_room new
-  pub messages : (n : ℕ) → HasRoomFor old n → HasRoomFor new n
+  pub parcels : (n : ℕ) → HasRoomFor old n → HasRoomFor new n
   pub changes : (told : Told) → HasRoom old told → HasRoom new told

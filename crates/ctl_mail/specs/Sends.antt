@@ -5,7 +5,8 @@ use Rattle.std.specs.List.{All, filter, fold}
 use Rattle.ruby_value.specs.declared.fault.Fault.{Fault}
 use Rattle.ruby_value.specs.declared.setup.MachineSetup.{MachineSetup}
 use Rattle.ruby_value.specs.declared.value.Value.{Value}
-use Rattle.ctl_face.specs.Prelude.{sent_of, InboxMessage, Mail, for_others, Actor, Sending, copy_limit, has_jitter, no_copies, send, with_network_copy, receiving_buffer}
+use Rattle.ctl_face.specs.declared.parcel.Lent.{Lent}
+use Rattle.ctl_face.specs.Prelude.{sent_of, InboxMessage, Mail, parcels_for_others, Actor, Sending, copy_limit, has_jitter, no_copies, send, with_network_copy, receiving_buffer}
 use Rattle.ctl_mail.specs.declared.changes.MailChanges.{MailChanges}
 use Rattle.ctl_mail.specs.declared.store.MailStore.{MailStore}
 use Rattle.ctl_mail.specs.MailOf.{mail_of}
@@ -24,7 +25,7 @@ view_after store changes = changed_view (mail_of store) (told_by changes)
 abbrev pub view_with_copies : ℕ → MailView → Sending → MailView
 view_with_copies me v s = record {
   mail = s.mail;
-  acts = record v.acts { sent = v.acts.sent ++ map sent_of s.copies; posted = v.acts.posted ++ for_others me s.copies };
+  acts = record v.acts { sent = v.acts.sent ++ map sent_of s.copies; posted = v.acts.posted ++ parcels_for_others me s.copies };
 }
 
 abbrev pub view_after_sending : ℕ → MailView → Result Sending Fault → Result MailView Fault
@@ -50,6 +51,7 @@ pub record MaySend (me now copies : ℕ) (mail : Mail) : Type 0 where
   pub copies_left : mail.copies + copies ≤ copy_limit
   pub sent : mail.sent ≤ copy_limit * now + mail.copies
   pub drawn : mail.drawn ≤ copy_limit * now + mail.copies
+  pub lent : All (λ (l : Lent). l.count ≤ mail.sent) mail.lent
 
 -- where words are drawn, they are those of the controller's stream from the next one on
 abbrev pub AreNext : Actor → ℕ → Option Position → Type 0

@@ -1,13 +1,14 @@
 -- A copy that a scan sends, as one of its changes: it is counted, comes into the controller's own mail where that is the receiver,
--- and has a note; and which last arrivals the acts of a scan have written.
-use Rattle.std.specs.Prelude.{◌-◌, ◌+◌, ◌≤◌, ◌++◌, ◌==◌, ◌&&◌, ℕ, Bool, false, Option, Some, List, [], ◌∷◌, vec_capacity, vec_len, if◌then◌else◌}
+-- takes a slot where its buffer has a size, and has a note; and which last arrivals the acts of a scan have written.
+use Rattle.std.specs.Prelude.{◌-◌, ◌+◌, ◌≤◌, ◌++◌, ◌==◌, ◌&&◌, ℕ, Bool, false, is_some, Option, Some, List, [], ◌∷◌, vec_capacity, vec_len, if◌then◌else◌}
 use Rattle.std.specs.VecDeque.{deque_capacity, deque_len}
 use Rattle.ruby_value.specs.declared.value.Value.{Value}
 use Rattle.ruby_value.specs.declared.message.Delivery.{Delivery}
 use Rattle.ruby_value.specs.declared.message.Message.{Message}
-use Rattle.ctl_face.specs.Prelude.{sent_of, for_others}
+use Rattle.ctl_face.specs.declared.routes.Routes.{Routes}
+use Rattle.ctl_face.specs.Prelude.{parcels_for_others, sent_of, size_of}
 use Rattle.ctl_mail.specs.declared.act.MailAct.{MailAct}
-use Rattle.ctl_mail.specs.declared.act.MailAct.TheVariants.{Arrive, Count, LocalLast, NetworkLast}
+use Rattle.ctl_mail.specs.declared.act.MailAct.TheVariants.{Arrive, Count, Lend, LocalLast, NetworkLast}
 use Rattle.ctl_mail.specs.declared.changes.MailChanges.{MailChanges}
 use Rattle.ctl_mail.specs.declared.sent.SendCounts.{SendCounts}
 use Rattle.ctl_mail.specs.Told.{Told}
@@ -38,14 +39,20 @@ copy_at me count receiver buffer arrival fields = record {
 }
 
 -- what a copy does to the sender's mail, but for last arrivals
-abbrev pub copy_acts : ℕ → Bool → Delivery Message → List MailAct
-copy_acts me drawn c = Count drawn ∷ (if c.receiver == me then Arrive c.message ∷ [] else [])
+abbrev pub arrive_acts : ℕ → Delivery Message → List MailAct
+arrive_acts me c = if c.receiver == me then Arrive c.message ∷ [] else []
 
-abbrev pub told_with_copy : ℕ → Bool → Delivery Message → Told → Told
-told_with_copy me drawn c old = record old {
+abbrev pub lend_acts : Routes → (receiver buffer : ℕ) → List MailAct
+lend_acts routes receiver buffer = if is_some (size_of routes receiver buffer) then Lend receiver buffer ∷ [] else []
+
+abbrev pub copy_acts : ℕ → Routes → Bool → Delivery Message → List MailAct
+copy_acts me routes drawn c = Count drawn ∷ (arrive_acts me c ++ lend_acts routes c.receiver c.message.buffer)
+
+abbrev pub told_with_copy : ℕ → Routes → Bool → Delivery Message → Told → Told
+told_with_copy me routes drawn c old = record old {
   counts = counts_after drawn old.counts;
-  log = old.log ++ copy_acts me drawn c;
-  acts = record old.acts { sent = old.acts.sent ++ sent_of c ∷ []; posted = old.acts.posted ++ for_others me (c ∷ []) };
+  log = old.log ++ copy_acts me routes drawn c;
+  acts = record old.acts { sent = old.acts.sent ++ sent_of c ∷ []; posted = old.acts.posted ++ parcels_for_others me (c ∷ []) };
 }
 
 abbrev pub told_with_act : MailAct → Told → Told

@@ -2,17 +2,19 @@
 -- their order, what they did to messages, and where those wait that they have stalled or woken. The changed mail is the mail after
 -- these acts, one after another.
 use Rattle.std.specs.Prelude.{◌≡◌, ◌≢◌, ◌+◌, ◌^◌, ◌<◌, ◌≤◌, ◌⊎◌, ◌↔◌, ℕ, Bool, true, List, [], ◌∷◌, Option, None, Some, Result, Ok, Err, Contains, is_some, if◌then◌else◌}
-use Rattle.std.specs.List.{fold}
+use Rattle.std.specs.List.{All, fold}
 use Rattle.std.specs.FinMap as finite
 use Rattle.ruby_value.specs.declared.fault.Fault.{Fault}
 use Rattle.ruby_value.specs.declared.message.MsgNo.{MsgNo}
 use Rattle.stall_map.specs.declared.stalled.Stalled.{Stalled}
-use Rattle.ctl_face.specs.Prelude.{Acts, AtFront, at_front, InboxMessage, Mail, NumbersAscend, with_last, mail_with_mark, mail_with_arrival, front, popped_mail, mail_with_recycled, stalled_mail, is_under, woken_mail}
+use Rattle.ctl_face.specs.declared.parcel.Lent.{Lent}
+use Rattle.ctl_face.specs.Prelude.{Acts, AtFront, at_front, InboxMessage, Mail, NumbersAscend, with_last, with_lent, mail_with_mark, mail_with_arrival, mail_with_credit, front, popped_mail, mail_with_recycled, stalled_mail, is_under, woken_mail}
 use Rattle.ctl_mail.specs.declared.act.MailAct.{MailAct}
-use Rattle.ctl_mail.specs.declared.act.MailAct.TheVariants.{Arrive, Count, LocalLast, Mark, NetworkLast, Pop, Recycle, Stall, Wake, WakeAll}
+use Rattle.ctl_mail.specs.declared.act.MailAct.TheVariants.{Arrive, Count, Credit, Lend, LocalLast, Mark, NetworkLast, Pop, Recycle, Stall, Wake, WakeAll}
 use Rattle.ctl_mail.specs.declared.changes.MailChanges.{MailChanges}
 use Rattle.ctl_mail.specs.declared.moves.Move.{Move}
 use Rattle.ctl_mail.specs.declared.moves.Waking.{Waking}
+use Rattle.ctl_mail.specs.declared.moves.Waking.TheVariants as waking
 use Rattle.ctl_mail.specs.declared.sent.SendCounts.{SendCounts}
 use Rattle.ctl_mail.specs.declared.store.MailStore.{MailStore}
 use Rattle.ctl_mail.specs.Inbox.{Has, IsAt}
@@ -41,6 +43,8 @@ after_act now mail (Arrive m) = mail_with_arrival mail m
 after_act now mail (Count drawn) = counted_mail mail drawn
 after_act now mail (NetworkLast network receiver arrival) = record mail { network_last = with_last mail.network_last network receiver arrival }
 after_act now mail (LocalLast buffer arrival) = record mail { local_last = finite.insert mail.local_last buffer arrival }
+after_act now mail (Lend receiver buffer) = record mail { lent = with_lent mail.lent receiver buffer }
+after_act now mail (Credit c) = mail_with_credit mail c
 
 unfoldable pub after_acts : ℕ → Mail → List MailAct → Mail
 after_acts now mail acts = fold (after_act now) mail acts
@@ -111,6 +115,25 @@ pub record IsWokenMoved (moves : List Move) (told : Told) (waking : Waking) (num
   pub is : IsWoken told waking it.number None
   pub number_is : it.number ≡ number
 
+-- or of one that waits so since a move
+pub record IsWokenSo (told : Told) (waking : Waking) (move : Move) (number : MsgNo) : Type 0 where
+  pub so : is_woken waking move.line ≡ true
+  pub is : IsWoken told waking move.number None
+  pub number_is : move.number ≡ number
+
+-- the number is that of a woken message that was stalled under a line before the scan, and waits there still
+pub record IsWokenUnder (stalled : List Stalled) (told : Told) (line : ℕ) (number : MsgNo) : Type 0 where
+  pub it : Stalled
+  pub held : Contains stalled it
+  pub under : it.line ≡ line
+  pub is : IsWoken told (waking.Line line) it.message.number (Some line)
+  pub number_is : it.message.number ≡ number
+
+-- so, by which messages are woken
+abbrev pub IsWokenKept : List Stalled → Told → Waking → MsgNo → Type 0
+IsWokenKept stalled told (waking.Line line) number = IsWokenUnder stalled told line number
+IsWokenKept stalled told waking.All number = IsWokenStalled stalled told waking.All number
+
 abbrev pub IsWokenIn : List Stalled → Told → Waking → MsgNo → Type 0
 IsWokenIn stalled told waking number = IsWokenStalled stalled told waking number ⊎ IsWokenMoved told.moves told waking number
 
@@ -129,8 +152,8 @@ IsSeen cycle o = o.waiting ≡ None → o.message.arrival ≤ cycle
 pub record Reflects (queues : Queues) (stalled : List Stalled) (told : Told) (inbox : List InboxMessage) : Type 0 where
   pub ascends : NumbersAscend inbox
   pub left : (o : InboxMessage) → IsSeen told.cycle o → Contains inbox o ↔ IsLeft queues stalled told o
-  -- where nothing was woken, what was stalled before the scan still waits
-  pub none_back : told.acts.woken ≡ [] → (s : Stalled) → Contains stalled s → waiting_after s.message.number told.moves (Some s.line) ≢ None
+  -- what was stalled before the scan and waits no longer was woken
+  pub back : (s : Stalled) → Contains stalled s → waiting_after s.message.number told.moves (Some s.line) ≡ None → Contains told.acts.woken s.message.number
   -- what was stalled or woken is in the kept mail
   pub moved : (move : Move) → Contains told.moves move → (o : InboxMessage) × Has queues stalled o × (o.message.number ≡ move.number)
 
@@ -140,16 +163,22 @@ pub record CountsFit (mail : Mail) : Type 0 where
   pub drawn : mail.drawn + 1 < 2 ^ 64
   pub copies : mail.copies + 1 < 2 ^ 64
 
--- the act can be made in the mail: a message that comes in has a new number, and counts fit
-abbrev pub IsMakeable : Mail → MailAct → Type 0
-IsMakeable mail (Arrive m) = IsNewIn mail m.number
-IsMakeable mail (Count drawn) = CountsFit mail
-IsMakeable mail _ = Unit {0}
+-- so do the counts of slots in use
+abbrev pub LentFit : Mail → Type 0
+LentFit mail = All (λ (l : Lent). l.count + 1 < 2 ^ 64) mail.lent
+
+-- the act can be made in the mail: a message that comes in has a new number, counts fit, and a credit comes for a later cycle
+abbrev pub IsMakeable : ℕ → Mail → MailAct → Type 0
+IsMakeable now mail (Arrive m) = IsNewIn mail m.number
+IsMakeable now mail (Count drawn) = CountsFit mail
+IsMakeable now mail (Lend receiver buffer) = LentFit mail
+IsMakeable now mail (Credit c) = now < c.arrival
+IsMakeable now mail _ = Unit {0}
 
 -- so of each act, in the mail as those before it leave it
 unfoldable pub AreMakeable : ℕ → Mail → List MailAct → Type 0
 AreMakeable now mail [] = Unit {0}
-AreMakeable now mail (act ∷ rest) = IsMakeable mail act × AreMakeable now (after_act now mail act) rest
+AreMakeable now mail (act ∷ rest) = IsMakeable now mail act × AreMakeable now (after_act now mail act) rest
 
 -- the acts can be made in the mail, and what is counted is what the changed mail counts
 pub record CopiesFit (mail : Mail) (told : Told) : Type 0 where

@@ -1,3 +1,4 @@
+use ctl_face::Credit;
 use ruby_value::Message;
 
 /// An act on the mail of a controller.
@@ -23,4 +24,8 @@ pub enum MailAct {
     NetworkLast(u16, u32, u64),
     /// The last copy in a buffer of the controller's own arrives at a cycle.
     LocalLast(u16, u64),
+    /// A slot more is in use in a buffer with a size at a receiver.
+    Lend(u32, u16),
+    /// A credit comes in, with a mark for its arrival.
+    Credit(Credit),
 }

@@ -1,6 +1,7 @@
 ghost use Rattle.std.specs.Prelude.{◌≡◌, ◌++◌, [], ◌∷◌, ◌↔◌, true, OnOk, OnErr, Contains, IsTrue};
 ghost use Rattle.ruby_value.specs.declared.message.MsgNo.{MsgNo};
 ghost use Rattle.ctl_face.specs.Prelude.{no_acts};
+ghost use Rattle.ctl_mail.specs.Dequeued.{credit_to};
 ghost use Rattle.ctl_mail.specs.declared.act.MailAct.TheVariants as act;
 ghost use Rattle.ctl_mail.specs.MailOf.{IsMail, mail_of};
 ghost use Rattle.ctl_mail.specs.Told.{AreOf, IsGone, counts_in, told_by};
@@ -9,7 +10,8 @@ use crate::MailStore;
 use crate::act::MailAct;
 use crate::moves::Move;
 use crate::sent::SendCounts;
-use ruby_value::{Delivery, Message, MsgNo, NoMemory, Sent, Seq};
+use ctl_face::{Credit, Parcel};
+use ruby_value::{Delivery, MsgNo, NoMemory, Sent, Seq};
 use std::alloc::Global;
 use std::collections::VecDeque;
 use std::mem;
@@ -25,7 +27,7 @@ pub struct MailChanges {
     pub(crate) woken: Vec<MsgNo>,
     pub(crate) recycled: Vec<MsgNo>,
     pub(crate) sent: Vec<Sent>,
-    pub(crate) posted: Vec<Delivery<Message>>,
+    pub(crate) posted: Vec<Delivery<Parcel>>,
     pub(crate) again: bool,
     pub(crate) moves: Vec<Move>,
     pub(crate) alloc: Global,
@@ -91,9 +93,18 @@ impl MailChanges {
         &self.sent
     }
 
-    /// Moves out the copies for other controllers, each with its receiver, in the order in which they were sent.
-    pub fn take_posted(&mut self) -> Seq<Delivery<Message>>
-        ensures { result ≡ (told_by self.old).acts.posted }
+    /// What it sent to other controllers, copies and credits, each with its receiver, in the order in which it was sent.
+    pub fn posted(&self) -> &[Delivery<Parcel>]
+        ensures { result.now ≡ (told_by self.now).acts.posted }
+    {
+        &self.posted
+    }
+
+    /// Moves out what is for other controllers, copies and credits, each with its receiver, in the order in which it was sent.
+    pub fn take_posted(&mut self) -> Seq<Delivery<Parcel>>
+        ensures posted { result ≡ (told_by self.old).acts.posted }
+        ensures left { let old = told_by self.old in
+            told_by self.new ≡ record old { acts = record old.acts { posted = [] } } }
     {
         Seq::of(mem::replace(&mut self.posted, Vec::new(self.alloc)))
     }
@@ -164,6 +175,55 @@ impl MailChanges {
         self.consumed.reserve(1)?;
         self.log.push_back(MailAct::Pop(buffer))?;
         self.consumed.push_reserved(number);
+        Ok(())
+    }
+
+    // Keeps that the front of a buffer, of this number, is consumed, for which the controller itself gets a credit.
+    pub(crate) fn keep_own_credit(
+        &mut self,
+        buffer: u16,
+        number: MsgNo,
+        credit: Credit,
+    ) -> Result<(), NoMemory>
+        ensures ok { OnOk result (let old = told_by self.old in told_by self.new ≡ record old {
+          log = old.log ++ act.Pop buffer ∷ act.Credit credit ∷ [];
+          acts = record old.acts { consumed = old.acts.consumed ++ number ∷ [] };
+        }) }
+        ensures err { OnErr result (told_by self.new ≡ told_by self.old) }
+    {
+        self.consumed.reserve(1)?;
+        self.log.reserve(2)?;
+        self.log.push_back_reserved(MailAct::Pop(buffer));
+        self.log.push_back_reserved(MailAct::Credit(credit));
+        self.consumed.push_reserved(number);
+        Ok(())
+    }
+
+    // Keeps that the front of a buffer, of this number, is consumed, for which another controller gets a credit.
+    pub(crate) fn keep_posted_credit(
+        &mut self,
+        buffer: u16,
+        number: MsgNo,
+        receiver: u32,
+        credit: Credit,
+    ) -> Result<(), NoMemory>
+        ensures ok { OnOk result (let old = told_by self.old in told_by self.new ≡ record old {
+          log = old.log ++ act.Pop buffer ∷ [];
+          acts = record old.acts {
+            consumed = old.acts.consumed ++ number ∷ [];
+            posted = old.acts.posted ++ credit_to receiver credit ∷ [];
+          };
+        }) }
+        ensures err { OnErr result (told_by self.new ≡ told_by self.old) }
+    {
+        self.consumed.reserve(1)?;
+        self.posted.reserve(1)?;
+        self.log.push_back(MailAct::Pop(buffer))?;
+        self.consumed.push_reserved(number);
+        self.posted.push_reserved(Delivery {
+            receiver,
+            message: Parcel::Credit(credit),
+        });
         Ok(())
     }
 

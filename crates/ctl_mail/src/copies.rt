@@ -1,6 +1,5 @@
 // The copies of a send, kept as changes of a scan, where there is room.
 ghost use Rattle.std.specs.Prelude.{◌≡◌, ◌≤◌, ◌+◌, ◌*◌, ◌^◌, ℕ, All, IfOk, length};
-ghost use Rattle.ctl_face.specs.declared.routes.Routes.{Routes};
 ghost use Rattle.ctl_face.specs.Prelude.{AreWithinLimits, local_copy};
 ghost use Rattle.ctl_mail.specs.Prelude.{AreNext, HaveNext, MaySend, actor_of, copies_to_all, mail_after, view_after, view_with_copies, view_with_network_copy, HasSpace, AreOf, told_by};
 
@@ -29,7 +28,7 @@ fn copy_to(
     requires cycle { changes.old.cycle ≤ 10 ^ 12 }
     requires latency { (1 ≤ latency) × latency ≤ 1000000 }
     requires may { MaySend me changes.old.cycle 1 (mail_after store.now changes.old) }
-    requires space { HasSpace changes.old 3 1 }
+    requires space { HasSpace changes.old 4 1 }
     requires words { AreNext (actor_of me seed routes.now) changes.old.counts.drawn words.old }
     ensures after { let actor = actor_of me seed routes.now in
         let old = view_after store.now changes.old in
@@ -40,8 +39,8 @@ fn copy_to(
         → MaySend me changes.old.cycle (more + 1) (mail_after store.now changes.old)
         → MaySend me changes.old.cycle more (mail_after store.now changes.new) }
     ensures space { (more : ℕ)
-        → HasSpace changes.old (3 * (more + 1)) (more + 1)
-        → HasSpace changes.new (3 * more) more }
+        → HasSpace changes.old (4 * (more + 1)) (more + 1)
+        → HasSpace changes.new (4 * more) more }
     ensures words { AreNext (actor_of me seed routes.now) changes.new.counts.drawn words.new }
     ensures cycle { changes.new.cycle ≡ changes.old.cycle }
 {
@@ -51,7 +50,7 @@ fn copy_to(
     let ordered = routes.is_ordered(network);
     let arrival = network_arrival(store, changes, ordered, network, receiver, due);
     let buffer = routes.receiving_buffer(receiver, network).unwrap_or(0);
-    changes.keep_copy(me, receiver, buffer, arrival, drawn, fields);
+    changes.keep_copy(me, routes, receiver, buffer, arrival, drawn, fields);
     if ordered {
         changes.keep_act(MailAct::NetworkLast(network, receiver, arrival));
     }
@@ -80,7 +79,7 @@ pub(crate) fn copy_to_all(
     requires clones { All (λ f. f ≡ fields) clones.items }
     requires may { MaySend me changes.old.cycle (length members.now)
         (mail_after store.now changes.old) }
-    requires space { HasSpace changes.old (3 * length members.now) (length members.now) }
+    requires space { HasSpace changes.old (4 * length members.now) (length members.now) }
     ensures after { let actor = actor_of me seed routes.now in
         let old = view_after store.now changes.old in
         view_after store.now changes.new ≡ view_with_copies me old
@@ -112,6 +111,7 @@ pub(crate) fn copy_to_itself(
     store: &MailStore,
     changes: &mut MailChanges,
     me: u32,
+    routes: &Routes,
     ordered: bool,
     buffer: u16,
     latency: u64,
@@ -121,8 +121,8 @@ pub(crate) fn copy_to_itself(
     requires cycle { changes.old.cycle ≤ 10 ^ 12 }
     requires latency { (1 ≤ latency) × latency ≤ 1000000 }
     requires may { MaySend me changes.old.cycle 1 (mail_after store.now changes.old) }
-    requires space { HasSpace changes.old 3 1 }
-    ensures after { (seed : ℕ) (routes : Routes) → let actor = actor_of me seed routes in
+    requires space { HasSpace changes.old 4 1 }
+    ensures after { (seed : ℕ) → let actor = actor_of me seed routes.now in
         let old = view_after store.now changes.old in
         view_after store.now changes.new ≡ view_with_copies me old
         (local_copy actor ordered old.mail buffer latency fields changes.old.cycle) }
@@ -131,7 +131,7 @@ pub(crate) fn copy_to_itself(
 {
     let due = changes.cycle + latency;
     let arrival = local_arrival(store, changes, ordered, buffer, due);
-    changes.keep_copy(me, me, buffer, arrival, false, fields);
+    changes.keep_copy(me, routes, me, buffer, arrival, false, fields);
     if ordered {
         changes.keep_act(MailAct::LocalLast(buffer, arrival));
     }

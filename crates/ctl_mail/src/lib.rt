@@ -1,6 +1,6 @@
 //! The mail of a controller as it is kept, and what a scan changes in it: messages in buffers and stalled ones, the cycles at
-//! which the controller must wake, and what its sends go by. A scan reads through to the mail and keeps its changes beside it,
-//! which are dropped or made.
+//! which the controller must wake, and what its sends go by, slots in use and credits among it. A scan reads through to the
+//! mail and keeps its changes beside it, which are dropped or made.
 #![tactic(auto)]
 
 mod act;
@@ -8,8 +8,10 @@ mod arrivals;
 mod census;
 mod changes;
 mod copies;
+mod credits;
 mod lasts;
 mod lending;
+mod lent;
 mod make;
 mod marks;
 mod moves;
@@ -19,6 +21,7 @@ mod reads;
 mod scan;
 mod sends;
 mod sent;
+mod slots_left;
 mod stalls;
 mod store;
 mod wakes;
@@ -31,6 +34,7 @@ pub use reads::{front, peek, ready};
 pub use scan::{again, pop, recycle};
 pub use sends::send;
 pub use sent::SendCounts;
+pub use slots_left::slots;
 pub use stalls::stall;
 pub use store::MailStore;
 pub use wakes::{wake, wake_all};

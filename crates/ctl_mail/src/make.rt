@@ -1,14 +1,17 @@
 // The acts on mail, made in a controller's mail as it is kept. They take no memory.
 ghost use Rattle.std.specs.Prelude.{◌≡◌, ◌<◌, ◌≤◌, ◌+◌, ◌^◌, ℕ, [], ◌∷◌, true, IfNone, IfSome, OnOk, All, count_by, length};
 ghost use Rattle.std.specs.FinMap as finite;
-ghost use Rattle.ctl_face.specs.Prelude.{front, with_last, mail_with_mark, mail_with_arrival, mail_without};
+ghost use Rattle.ctl_face.specs.Prelude.{front, with_last, mail_with_mark, mail_with_arrival, mail_with_credit, mail_without};
 ghost use Rattle.ctl_mail.specs.declared.act.MailAct.TheVariants as act;
 ghost use Rattle.ctl_mail.specs.MailOf.{IsMail, IsNewIn, buffer_count, mail_of};
 ghost use Rattle.ctl_mail.specs.Queues.{LosesNoRoom, LosesOneRoom, room_of};
-ghost use Rattle.ctl_mail.specs.Room.{HasLastRoom, HasPlaces, HasPlacesToWake, HasRoom, KeepsRoom, LosesPlaces, is_stall, is_wake, mark_room};
-ghost use Rattle.ctl_mail.specs.Told.{CopiesFit, CountsFit, IsMakeable, after_act, changed_mail, counted_mail, told_by};
+ghost use Rattle.ctl_mail.specs.Room.{HasLastRoom, HasPlaces, HasPlacesToWake, HasRoom, KeepsRoom, LosesPlaces, credit_room, is_stall, is_wake, lent_room, mark_room};
+ghost use Rattle.ctl_mail.specs.Told.{CopiesFit, CountsFit, IsMakeable, LentFit, after_act, changed_mail, counted_mail, told_by};
 
-use crate::{MailAct, MailChanges, MailStore, lasts, marks, queues, stalls, wakings};
+use crate::{
+    MailAct, MailChanges, MailStore, credits, lasts, lent, marks, queues, stalls, wakings,
+};
+use ctl_face::Credit;
 use ruby_value::{Message, NoMemory};
 
 /// The mail with a mark.
@@ -45,8 +48,8 @@ pub(crate) fn take(store: &mut MailStore, now: u64, buffer: u16) -> Option<Messa
     queues::pop(&mut store.buffers, buffer, now)
 }
 
-// Puts a message with a new number in, with a mark for its arrival.
-fn put(store: &mut MailStore, m: Message)
+/// Puts a message with a new number in, with a mark for its arrival.
+pub(crate) fn put(store: &mut MailStore, m: Message)
     requires mail { IsMail store.old }
     requires new { IsNewIn (mail_of store.old) m.number }
     requires place { 0 < room_of store.old.buffers.items m.buffer }
@@ -146,10 +149,42 @@ fn local_last(store: &mut MailStore, buffer: u16, arrival: u64)
     let _before = store.local_last.put(u64::from(buffer), arrival);
 }
 
+// The mail with a slot more in use in a buffer at a receiver.
+fn lend(store: &mut MailStore, receiver: u32, buffer: u16)
+    requires mail { IsMail store.old }
+    requires fit { LentFit (mail_of store.old) }
+    requires place { 0 < lent_room store.old }
+    ensures after { mail_of store.new ≡ after_act 0 (mail_of store.old) (act.Lend receiver buffer) }
+    ensures mail { IsMail store.new }
+    ensures buffers { buffer_count store.new ≡ buffer_count store.old }
+    ensures marks { store.new.marks ≡ store.old.marks }
+    ensures stalls { store.new.stalls ≡ store.old.stalls }
+    ensures places { LosesPlaces store.old store.new 1 }
+{
+    lent::put(&mut store.lent, receiver, buffer);
+}
+
+/// The mail with a credit, with a mark for its arrival.
+pub(crate) fn credit(store: &mut MailStore, c: Credit)
+    requires mail { IsMail store.old }
+    requires place { 0 < credit_room store.old }
+    requires room { 0 < mark_room store.old }
+    ensures after { mail_of store.new ≡ mail_with_credit (mail_of store.old) c }
+    ensures mail { IsMail store.new }
+    ensures buffers { buffer_count store.new ≡ buffer_count store.old }
+    ensures room { mark_room store.old ≤ mark_room store.new + 1 }
+    ensures buffers_stay { store.new.buffers ≡ store.old.buffers }
+    ensures stalls { store.new.stalls ≡ store.old.stalls }
+    ensures places { LosesPlaces store.old store.new 1 }
+{
+    credits::put(&mut store.credits, c);
+    marks::put(&mut store.marks, c.arrival);
+}
+
 /// The mail after an act.
 pub(crate) fn make(store: &mut MailStore, cycle: u64, act: MailAct)
     requires mail { IsMail store.old }
-    requires makeable { IsMakeable (mail_of store.old) act }
+    requires makeable { IsMakeable cycle (mail_of store.old) act }
     requires room { 0 < mark_room store.old }
     requires waits { is_stall act ≡ true → 0 < store.old.stalls.room }
     requires to_wake { is_wake act ≡ true → HasPlacesToWake store.old 0 }
@@ -174,6 +209,8 @@ pub(crate) fn make(store: &mut MailStore, cycle: u64, act: MailAct)
             network_last(store, network, receiver, arrival)
         }
         MailAct::LocalLast(buffer, arrival) => local_last(store, buffer, arrival),
+        MailAct::Lend(receiver, buffer) => lend(store, receiver, buffer),
+        MailAct::Credit(c) => credit(store, c),
     }
 }
 
@@ -207,6 +244,36 @@ impl MailChanges {
     }
 }
 
+// Makes room for the counts of slots in use of so many more buffers.
+fn reserve_lent(store: &mut MailStore, more: usize) -> Result<(), NoMemory>
+    requires mail { IsMail store.old }
+    ensures same { mail_of store.new ≡ mail_of store.old }
+    ensures mail { IsMail store.new }
+    ensures buffers { buffer_count store.new ≡ buffer_count store.old }
+    ensures marks { store.new.marks ≡ store.old.marks }
+    ensures stalls { store.new.stalls ≡ store.old.stalls }
+    ensures places { LosesPlaces store.old store.new 0 }
+    ensures ok { OnOk result (more ≤ lent_room store.new) }
+{
+    store.lent.reserve(more)?;
+    Ok(())
+}
+
+// Makes room for so many more credits.
+fn reserve_credits(store: &mut MailStore, more: usize) -> Result<(), NoMemory>
+    requires mail { IsMail store.old }
+    ensures same { mail_of store.new ≡ mail_of store.old }
+    ensures mail { IsMail store.new }
+    ensures buffers { buffer_count store.new ≡ buffer_count store.old }
+    ensures marks { store.new.marks ≡ store.old.marks }
+    ensures stalls { store.new.stalls ≡ store.old.stalls }
+    ensures places { LosesPlaces store.old store.new 0 }
+    ensures ok { OnOk result (more ≤ credit_room store.new) }
+{
+    store.credits.reserve(more)?;
+    Ok(())
+}
+
 // Makes room for so many more acts like this one, or answers that there is no memory for them, as of a buffer that isn't there:
 // routes that fit name no such buffer.
 fn reserve_place(store: &mut MailStore, act: &MailAct, more: usize) -> Result<(), NoMemory>
@@ -229,6 +296,8 @@ fn reserve_place(store: &mut MailStore, act: &MailAct, more: usize) -> Result<()
             lasts::reserve(&mut store.network_last, *network, more)
         }
         MailAct::LocalLast(_, _) => store.local_last.reserve(more),
+        MailAct::Lend(_, _) => reserve_lent(store, more),
+        MailAct::Credit(_) => reserve_credits(store, more),
         _ => Ok(()),
     }
 }

@@ -22,7 +22,7 @@ pub(crate) enum Waking {
 
 impl Waking {
     // Whether a message is woken that waits under this line, if it waits.
-    fn wakes(self, waiting: Option<u64>) -> bool
+    pub(crate) fn wakes(self, waiting: Option<u64>) -> bool
         ensures { result ≡ is_woken self waiting }
     {
         match (self, waiting) {

@@ -1,13 +1,15 @@
 // What a scan reads of a controller's mail, through what it has changed.
-ghost use Rattle.std.specs.Prelude.{◌≡◌, ◌<◌, ◌↔◌, None, Some, IsTrue, is_some, length, slice_get};
+ghost use Rattle.std.specs.Prelude.{◌≡◌, ◌↔◌, None, Some, IsTrue, is_some, slice_get};
 ghost use Rattle.std.specs.Option.{ok_or, option_copied};
 ghost use Rattle.ruby_value.specs.declared.fault.Fault.TheVariants as fault;
 ghost use Rattle.ctl_face.specs.Prelude.{Reads, front};
-ghost use Rattle.ctl_mail.specs.Prelude.{IsBack, IsBackAt, IsBackNow, IsEither, IsLeast, IsLeftIn, first_of_two, IsMail, mail_of, queue_of, AreOf, IsOut, changed_mail, told_by};
+ghost use Rattle.msg_buffer.specs.Prelude.{comes_before};
+ghost use Rattle.ctl_mail.specs.Prelude.{IsBackAmong, IsBackNow, IsBackOf, IsEither, IsFirstWith, IsLeast, IsLeftIn, first_of_two, is_nearer, IsMail, mail_of, queue_of, AreOf, IsOut, changed_mail, told_by};
 
 use crate::{MailChanges, MailStore};
 use ctl_face::{Fault, Trouble};
 use msg_buffer::{Buffer, Message};
+use ruby_value::MsgNo;
 use stall_map::{StallMap, Stalled};
 
 // The first of the messages of a buffer that have arrived and aren't out.
@@ -43,18 +45,19 @@ fn first_of<'a>(buffers: &'a [Buffer], changes: &MailChanges, buffer: u16) -> Op
     }
 }
 
+// Whether a message comes before another.
+fn comes_before(y: &Message, x: &Message) -> bool
+    ensures { result ≡ comes_before y.now x.now }
+{
+    y.arrival < x.arrival || (y.arrival == x.arrival && y.number.is_before(x.number))
+}
+
 // The first of two messages.
 fn first_of_two<'a>(a: Option<&'a Message>, b: Option<&'a Message>) -> Option<&'a Message>
     ensures { option_copied result ≡ first_of_two (option_copied a.entry) (option_copied b.entry) }
 {
     match (a, b) {
-        (Some(x), Some(y)) => {
-            if y.arrival < x.arrival || (y.arrival == x.arrival && y.number.is_before(x.number)) {
-                b
-            } else {
-                a
-            }
-        }
+        (Some(x), Some(y)) => { if comes_before(y, x) { b } else { a } }
         (Some(_), None) => a,
         (None, _) => b,
     }
@@ -68,30 +71,55 @@ fn is_back(changes: &MailChanges, s: &Stalled, buffer: u16) -> bool
     m.buffer == buffer && m.arrival <= changes.cycle && changes.is_free(m.number, Some(s.line))
 }
 
-// The message at a place of those that were stalled before the scan, if it is ready in the buffer now.
-fn back_at<'a>(
+// Whether a message comes before another one, if there is one.
+fn is_nearer(m: &Message, first: Option<&Message>) -> bool
+    ensures { result ≡ is_nearer m.now (option_copied first.entry) }
+{
+    match first {
+        Some(x) => comes_before(m, x),
+        None => true,
+    }
+}
+
+// The first of a message, if there is one, and the one of a number of those that were stalled before the scan, if that is ready in the
+// buffer now. What doesn't come first isn't looked at further.
+fn with_back<'a>(
+    first: Option<&'a Message>,
     stalls: &'a StallMap,
     changes: &MailChanges,
     buffer: u16,
-    at: usize,
+    number: MsgNo,
 ) -> Option<&'a Message>
-    requires { at < length stalls.now.kept }
-    ensures { IsLeast (IsBackAt stalls.now.kept (told_by changes.now) buffer at) (option_copied result) }
+    ensures { let back = IsBackOf stalls.now.kept (told_by changes.now) buffer number in
+        IsFirstWith back (option_copied first.entry) (option_copied result) }
 {
-    let s = stalls.at(at);
-    if is_back(changes, s, buffer) {
-        return Some(&s.message);
+    // Their numbers ascend, so that there is one of this number alone.
+    let _waiting = stalls.len();
+    let Some(s) = stalls.find(number) else {
+        return first;
+    };
+    if !is_nearer(&s.message, first) {
+        return first;
     }
-    None
+    if !is_back(changes, s, buffer) {
+        return first;
+    }
+    Some(&s.message)
 }
 
-// The first of the messages that were stalled before the scan and are ready in the buffer now.
-fn first_back<'a>(stalls: &'a StallMap, changes: &MailChanges, buffer: u16) -> Option<&'a Message>
-    ensures { IsLeast (IsBack stalls.now.kept (told_by changes.now) buffer) (option_copied result) }
+// The first of the messages of some numbers that were stalled before the scan and are ready in the buffer now.
+fn first_among<'a>(
+    numbers: &[MsgNo],
+    stalls: &'a StallMap,
+    changes: &MailChanges,
+    buffer: u16,
+) -> Option<&'a Message>
+    ensures { let told = told_by changes.now in
+        IsLeast (IsBackAmong numbers.now stalls.now.kept told buffer) (option_copied result) }
 {
     let mut first = None;
-    for i in 0..stalls.len() {
-        first = first_of_two(first, back_at(stalls, changes, buffer, i));
+    for number in numbers {
+        first = with_back(first, stalls, changes, buffer, *number);
     }
     first
 }
@@ -110,7 +138,8 @@ pub(crate) fn first_ready<'a>(
     if changes.woken.is_empty() {
         return queued;
     }
-    first_of_two(queued, first_back(&store.stalls, changes, buffer))
+    let back = first_among(&changes.woken, &store.stalls, changes, buffer);
+    first_of_two(queued, back)
 }
 
 /// The front of a buffer in the changed mail, lent, or `None` exactly where there is none. It takes no memory.

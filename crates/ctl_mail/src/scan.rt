@@ -1,25 +1,71 @@
 // The acts on mail of a scan, kept as its changes.
-ghost use Rattle.std.specs.Prelude.{◌≡◌, ◌≤◌, ◌^◌, None, Ok, Some, IfSome, nat_abs, if◌then◌else◌};
-ghost use Rattle.ctl_face.specs.Prelude.{is_latency};
-ghost use Rattle.ctl_mail.specs.Prelude.{IsMail, mail_of, MailDoes, view_again, view_popped, view_recycled, AreOf, changed_view, told_by};
+ghost use Rattle.std.specs.Prelude.{◌≡◌, ◌≤◌, ◌^◌, ℕ, None, Ok, Some, IfSome, OnOk, OnErr, nat_abs, if◌then◌else◌};
+ghost use Rattle.ctl_face.specs.Prelude.{had_slot, is_latency};
+ghost use Rattle.ctl_mail.specs.Prelude.{IsMail, mail_of, MailDoes, actor_of, told_dequeued, view_again, view_popped, view_recycled, AreOf, changed_view, told_by};
 
 use crate::{MailChanges, MailStore, peek};
-use ctl_face::{Fault, Trouble};
+use ctl_face::{Credit, Fault, Routes, Trouble};
+use ruby_value::{MsgNo, NoMemory};
 
-/// Consumes the front of a buffer. The fault `Front` comes exactly where there is none. After a fault or want of memory the
-/// changes are as they were.
-pub fn pop(store: &MailStore, changes: &mut MailChanges, buffer: u16) -> Result<(), Trouble>
+// Whether a message of this number had a slot in a buffer of the controller's own.
+fn had_slot(me: u32, routes: &Routes, buffer: u16, number: MsgNo) -> bool
+    ensures { (seed : ℕ) → result ≡ had_slot (actor_of me seed routes.now) buffer number }
+{
+    routes.size_of(me, buffer).is_some() && (number.sender as usize) < routes.receiving.len()
+}
+
+// Keeps that the front of a buffer, of this number, is consumed, and the credit for it.
+fn keep_dequeued(
+    changes: &mut MailChanges,
+    me: u32,
+    routes: &Routes,
+    buffer: u16,
+    number: MsgNo,
+) -> Result<(), NoMemory>
+    requires { (told_by changes.old).cycle ≤ 10 ^ 12 }
+    ensures ok { (seed : ℕ) → let actor = actor_of me seed routes.now in
+        OnOk result (told_by changes.new ≡ told_dequeued actor buffer number (told_by changes.old)) }
+    ensures err { OnErr result (told_by changes.new ≡ told_by changes.old) }
+{
+    if !had_slot(me, routes, buffer, number) {
+        return changes.keep_pop(buffer, number);
+    }
+    let credit = Credit {
+        receiver: me,
+        buffer,
+        arrival: changes.cycle + 1,
+    };
+    let sender = number.sender;
+    if sender == me {
+        return changes.keep_own_credit(buffer, number, credit);
+    }
+    changes.keep_posted_credit(buffer, number, sender, credit)
+}
+
+/// Consumes the front of a buffer, for which a credit goes to its sender where it had a slot: into the mail where the controller
+/// itself is the sender, and else it is posted. The fault `Front` comes exactly where there is none. After a fault or want of memory
+/// the changes are as they were.
+pub fn pop(
+    store: &MailStore,
+    changes: &mut MailChanges,
+    me: u32,
+    routes: &Routes,
+    buffer: u16,
+) -> Result<(), Trouble>
     requires mail { IsMail store.now }
     requires changes { AreOf store.now (told_by changes.old) }
-    ensures does { let old = changed_view (mail_of store.now) (told_by changes.old) in
-        MailDoes (view_popped old buffer (told_by changes.old).cycle) result old (changed_view (mail_of store.now) (told_by changes.new)) }
+    requires cycle { (told_by changes.old).cycle ≤ 10 ^ 12 }
+    ensures does { (seed : ℕ) → let actor = actor_of me seed routes.now in
+        let old = changed_view (mail_of store.now) (told_by changes.old) in
+        let popped = view_popped actor old buffer (told_by changes.old).cycle in
+        MailDoes popped result old (changed_view (mail_of store.now) (told_by changes.new)) }
     ensures changes { AreOf store.now (told_by changes.new) }
     ensures cycle { (told_by changes.new).cycle ≡ (told_by changes.old).cycle }
 {
     let Some(m) = peek(store, changes, buffer) else {
         return Err(Trouble::Fault(Fault::Front));
     };
-    changes.keep_pop(buffer, m.number)?;
+    keep_dequeued(changes, me, routes, buffer, m.number)?;
     Ok(())
 }
 

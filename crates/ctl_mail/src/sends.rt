@@ -1,8 +1,8 @@
 // The sends of a scan, kept as its changes.
 ghost use Rattle.std.specs.Prelude.{◌≡◌, ◌≤◌, ◌+◌, ◌^◌, ℕ, [], IfOk, true, unwrap_or};
-ghost use Rattle.std.specs.List.{list_all};
+ghost use Rattle.std.specs.List.{fold, list_all};
 ghost use Rattle.ruby_value.specs.declared.setup.BufferPlace.TheVariants as place;
-ghost use Rattle.ctl_face.specs.declared.routes.Routes.{Routes};
+ghost use Rattle.ruby_value.specs.Prelude.{with_member};
 ghost use Rattle.ctl_face.specs.Prelude.{FitsMail, AreWithinLimits, network_copies, receivers_of, sending_on};
 ghost use Rattle.ctl_mail.specs.Prelude.{MailDoes, HaveNext, MaySend, actor_of, is_routed, mail_after, view_after, view_after_sending, view_sent, AreOf, told_by};
 
@@ -33,6 +33,14 @@ fn reaches_all(routes: &Routes, network: u16, members: &NetDest) -> bool
     true
 }
 
+// The members of a set: each once, in increasing order.
+fn named(members: &NetDest) -> Result<Option<NetDest>, NoMemory>
+    ensures { IfOk result (λ named. unwrap_or named [] ≡ fold with_member [] members.now) }
+{
+    let _count = members.count();
+    Ok(Some(members.clone()?))
+}
+
 // The controllers that the fields name, if there is a field for them.
 fn receivers(fields: &Fields, destination: Option<u16>) -> Result<Option<NetDest>, NoMemory>
     ensures { IfOk result (λ members. unwrap_or members [] ≡ receivers_of destination fields.now) }
@@ -41,7 +49,7 @@ fn receivers(fields: &Fields, destination: Option<u16>) -> Result<Option<NetDest
         return Ok(None);
     };
     match fields.get(place) {
-        Some(Value::Dest(members)) => Ok(Some(members.clone()?)),
+        Some(Value::Dest(members)) => named(members),
         _ => Ok(None),
     }
 }
@@ -94,6 +102,7 @@ fn send_to_itself(
     store: &MailStore,
     changes: &mut MailChanges,
     me: u32,
+    routes: &Routes,
     ordered: bool,
     buffer: u16,
     latency: u64,
@@ -103,7 +112,7 @@ fn send_to_itself(
     requires cycle { changes.old.cycle ≤ 10 ^ 12 }
     requires latency { (1 ≤ latency) × latency ≤ 1000000 }
     requires may { MaySend me changes.old.cycle 0 (mail_after store.now changes.old) }
-    ensures does { (seed : ℕ) (routes : Routes) → let actor = actor_of me seed routes in
+    ensures does { (seed : ℕ) → let actor = actor_of me seed routes.now in
         let old = view_after store.now changes.old in
         let now = changes.old.cycle in
         let sent = sending_on place.Local ordered actor old.mail buffer latency fields now in
@@ -115,7 +124,7 @@ fn send_to_itself(
         return Err(Trouble::Fault(Fault::Copies));
     }
     changes.reserve_copies(1)?;
-    copy_to_itself(store, changes, me, ordered, buffer, latency, fields);
+    copy_to_itself(store, changes, me, routes, ordered, buffer, latency, fields);
     Ok(())
 }
 
@@ -154,7 +163,16 @@ pub fn send(
     };
     match setup.place {
         BufferPlace::Local => {
-            send_to_itself(store, changes, me, setup.ordered, buffer, later, fields)
+            send_to_itself(
+                store,
+                changes,
+                me,
+                routes,
+                setup.ordered,
+                buffer,
+                later,
+                fields,
+            )
         }
         BufferPlace::To {
             network,

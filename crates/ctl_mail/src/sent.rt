@@ -1,10 +1,11 @@
 // The copies that a scan sends, kept as its changes. Where there is room for a copy, it takes no memory to keep it.
-ghost use Rattle.std.specs.Prelude.{◌≡◌, ◌<◌, ◌≤◌, ◌+◌, ◌*◌, ◌^◌, ℕ, None, OnOk};
+ghost use Rattle.std.specs.Prelude.{◌≡◌, ◌<◌, ◌≤◌, ◌+◌, ◌++◌, ◌*◌, ◌^◌, ℕ, None, OnOk};
 ghost use Rattle.std.specs.List.{fold};
-ghost use Rattle.ctl_mail.specs.Sent.{HasSpace, copy_at, counts_after, newer_local, newer_network, told_with_act, told_with_copy};
+ghost use Rattle.ctl_mail.specs.Sent.{HasSpace, lend_acts, copy_at, counts_after, newer_local, newer_network, told_with_act, told_with_copy};
 ghost use Rattle.ctl_mail.specs.Told.{told_by};
 
 use crate::{MailAct, MailChanges};
+use ctl_face::{Parcel, Routes};
 use ruby_value::{Delivery, Fields, Message, MsgNo, NoMemory, Sent};
 
 /// How many messages a controller has sent, how many words it has drawn, and how many copies it has sent in this cycle.
@@ -79,33 +80,50 @@ impl MailChanges {
     pub(crate) fn reserve_copies(&mut self, copies: usize) -> Result<(), NoMemory>
         requires { copies ≤ 4096 }
         ensures same { told_by self.new ≡ told_by self.old }
-        ensures ok { OnOk result (HasSpace self.new (3 * copies) copies) }
+        ensures ok { OnOk result (HasSpace self.new (4 * copies) copies) }
     {
-        self.log.reserve(3 * copies)?;
+        self.log.reserve(4 * copies)?;
         self.sent.reserve(copies)?;
         self.posted.reserve(copies)?;
         Ok(())
     }
 
-    // Keeps a copy with the controller's next number, where there is room. One to the controller itself comes into its mail.
+    // Keeps that a slot more is in use, where the buffer at the receiver has a size and there is room.
+    fn keep_lend(&mut self, routes: &Routes, receiver: u32, buffer: u16)
+        requires { HasSpace self.old 1 0 }
+        ensures after { let old = told_by self.old in
+            told_by self.new ≡ record old { log = old.log ++ lend_acts routes.now receiver buffer } }
+        ensures room { (acts copies : ℕ)
+            → HasSpace self.old (acts + 1) copies
+            → HasSpace self.new acts copies }
+        ensures cycle { self.new.cycle ≡ self.old.cycle }
+    {
+        if routes.size_of(receiver, buffer).is_some() {
+            self.log.push_back_reserved(MailAct::Lend(receiver, buffer));
+        }
+    }
+
+    // Keeps a copy with the controller's next number, where there is room. One to the controller itself comes into its mail, and one
+    // to a buffer with a size takes a slot.
     pub(crate) fn keep_copy(
         &mut self,
         me: u32,
+        routes: &Routes,
         receiver: u32,
         buffer: u16,
         arrival: u64,
         drawn: bool,
         fields: Fields,
     )
-        requires room { HasSpace self.old 2 1 }
+        requires room { HasSpace self.old 3 1 }
         requires sent { (told_by self.old).counts.sent + 1 < 2 ^ 64 }
         requires drawn { (told_by self.old).counts.drawn + 1 < 2 ^ 64 }
         requires copies { (told_by self.old).counts.copies + 1 < 2 ^ 64 }
         ensures after { let old = told_by self.old in
             let copy = copy_at me old.counts.sent receiver buffer arrival fields in
-            told_by self.new ≡ told_with_copy me drawn copy old }
+            told_by self.new ≡ told_with_copy me routes.now drawn copy old }
         ensures room { (acts copies : ℕ)
-            → HasSpace self.old (acts + 2) (copies + 1)
+            → HasSpace self.old (acts + 3) (copies + 1)
             → HasSpace self.new acts copies }
         ensures cycle { self.new.cycle ≡ self.old.cycle }
     {
@@ -131,8 +149,12 @@ impl MailChanges {
         if receiver == me {
             self.log.push_back_reserved(MailAct::Arrive(message));
         } else {
-            self.posted.push_reserved(Delivery { receiver, message });
+            self.posted.push_reserved(Delivery {
+                receiver,
+                message: Parcel::Message(message),
+            });
         }
+        self.keep_lend(routes, receiver, buffer);
     }
 
     // Keeps an act, where there is room.

@@ -4,7 +4,8 @@ ghost use Rattle.ctl_mail.specs.MailOf.{IsMail, mail_of};
 ghost use Rattle.ctl_mail.specs.MailView.{MailDoes, view_wake, view_wake_all, view_woken};
 ghost use Rattle.ctl_mail.specs.Moves.{act_of, is_woken, moves_back};
 ghost use Rattle.ctl_mail.specs.Numbers.{Adds, NumbersRise};
-ghost use Rattle.ctl_mail.specs.Told.{AreOf, IsWoken, IsWokenIn, IsWokenMoved, IsWokenStalled, changed_view, told_by};
+ghost use Rattle.ctl_mail.specs.declared.moves.Waking.TheVariants as waking;
+ghost use Rattle.ctl_mail.specs.Told.{AreOf, IsWoken, IsWokenIn, IsWokenKept, IsWokenMoved, IsWokenSo, IsWokenStalled, IsWokenUnder, changed_view, told_by};
 
 use crate::moves::{Move, Waking};
 use crate::{MailAct, MailChanges, MailStore, numbers};
@@ -73,7 +74,46 @@ fn add_if_woken(
     Ok(())
 }
 
-// Adds the numbers of the messages that are woken of those that were stalled before the scan.
+// Adds the numbers of the messages that are woken of those that were stalled under a line before the scan.
+fn add_under(
+    numbers: &mut Vec<MsgNo>,
+    stalls: &StallMap,
+    changes: &MailChanges,
+    line: u64,
+) -> Result<(), NoMemory>
+    requires { NumbersRise numbers.old.items }
+    ensures { OnOk result (Adds numbers.old.items
+        (IsWokenUnder stalls.now.kept (told_by changes.now) line) numbers.new.items) }
+{
+    let under = stalls.under(line);
+    for number in under {
+        add_if_woken(numbers, changes, Waking::Line(line), *number, Some(line))?;
+    }
+    Ok(())
+}
+
+// Adds the numbers of the messages that are woken of all that were stalled before the scan.
+fn add_all(
+    numbers: &mut Vec<MsgNo>,
+    stalls: &StallMap,
+    changes: &MailChanges,
+) -> Result<(), NoMemory>
+    requires { NumbersRise numbers.old.items }
+    ensures { OnOk result (Adds numbers.old.items
+        (IsWokenStalled stalls.now.kept (told_by changes.now) waking.All) numbers.new.items) }
+{
+    // Their numbers ascend, so that each is reached once.
+    let _waiting = stalls.len();
+    let mut last = None;
+    while let Some(next) = stalls.next_after(last) {
+        let number = next.1.number;
+        add_if_woken(numbers, changes, Waking::All, number, Some(next.0))?;
+        last = Some(number);
+    }
+    Ok(())
+}
+
+// Adds the numbers of the messages that are woken of those that were stalled before the scan, but for those that the scan has moved.
 fn add_stalled(
     numbers: &mut Vec<MsgNo>,
     stalls: &StallMap,
@@ -82,28 +122,43 @@ fn add_stalled(
 ) -> Result<(), NoMemory>
     requires { NumbersRise numbers.old.items }
     ensures { OnOk result (Adds numbers.old.items
-        (IsWokenStalled stalls.now.kept (told_by changes.now) waking) numbers.new.items) }
+        (IsWokenKept stalls.now.kept (told_by changes.now) waking) numbers.new.items) }
 {
-    for i in 0..stalls.len() {
-        let s = stalls.at(i);
-        add_if_woken(numbers, changes, waking, s.message.number, Some(s.line))?;
+    match waking {
+        Waking::Line(line) => add_under(numbers, stalls, changes, line),
+        Waking::All => add_all(numbers, stalls, changes),
     }
-    Ok(())
+}
+
+// Adds the number of a message that the scan has moved, if it waits so since then and is woken.
+fn add_if_moved(
+    numbers: &mut Vec<MsgNo>,
+    changes: &MailChanges,
+    waking: Waking,
+    m: Move,
+) -> Result<(), NoMemory>
+    requires { NumbersRise numbers.old.items }
+    ensures { let told = told_by changes.now in
+        OnOk result (Adds numbers.old.items (IsWokenSo told waking m) numbers.new.items) }
+{
+    if !waking.wakes(m.line) {
+        return Ok(());
+    }
+    add_if_woken(numbers, changes, waking, m.number, None)
 }
 
 // Adds the numbers of the messages that are woken of those that the scan has stalled or woken.
 fn add_moved(
     numbers: &mut Vec<MsgNo>,
-    moves: &[Move],
     changes: &MailChanges,
     waking: Waking,
 ) -> Result<(), NoMemory>
     requires { NumbersRise numbers.old.items }
-    ensures { OnOk result (Adds numbers.old.items
-        (IsWokenMoved moves.now (told_by changes.now) waking) numbers.new.items) }
+    ensures { let told = told_by changes.now in
+        OnOk result (Adds numbers.old.items (IsWokenMoved told.moves told waking) numbers.new.items) }
 {
-    for m in moves {
-        add_if_woken(numbers, changes, waking, m.number, None)?;
+    for m in &changes.moves {
+        add_if_moved(numbers, changes, waking, *m)?;
     }
     Ok(())
 }
@@ -115,7 +170,7 @@ fn woken(store: &MailStore, changes: &MailChanges, waking: Waking) -> Result<Vec
 {
     let mut numbers = Vec::new(changes.alloc);
     add_stalled(&mut numbers, &store.stalls, changes, waking)?;
-    add_moved(&mut numbers, &changes.moves, changes, waking)?;
+    add_moved(&mut numbers, changes, waking)?;
     Ok(numbers)
 }
 

@@ -51,10 +51,10 @@ fn first_line(stalls: &StallMap) -> Option<u64>
     ensures some { IfSome result (λ line. (m : Message) × Contains stalls.now.kept (record { line = line; message = m })) }
     ensures none { IfNone result (stalls.now.kept ≡ []) }
 {
-    if stalls.len() == 0 {
-        return None;
+    match stalls.next_after(None) {
+        Some(next) => Some(next.0),
+        None => None,
     }
-    Some(stalls.at(0).line)
 }
 
 /// The mail in which no message waits any longer.

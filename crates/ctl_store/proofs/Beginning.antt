@@ -14,6 +14,7 @@ use Rattle.ctl_mail.specs.Told as mail
 use Rattle.ctl_tables.specs.declared.change.TableChanges.{TableChanges}
 use Rattle.ctl_tables.specs.Stored as tables
 use Rattle.sequencer.specs.Prelude.{FitCallbacks, after_callbacks}
+use Rattle.ctl_store.specs.declared.changes.Changes.{Changes}
 use Rattle.ctl_store.specs.declared.parts.Parts.{Parts}
 use Rattle.ctl_store.proofs.Joined.{four}
 use Rattle.ctl_store.specs.Prelude.{FitCalls, after_calls, IsKept, ctl_of, IsScan, Scanned, local_of, scanned}
@@ -36,9 +37,18 @@ first_told counts now = record { cycle = now; counts = counts; log = []; acts = 
 unchanged_mail : (m : Mail) (told : mail.Told) (counts : SendCounts) (now : ℕ) → told ≡ first_told counts now → mail.changed_mail m told ≡ m
 unchanged_mail m told counts now is = ap (mail.changed_mail m) is ∙ none_made now m
 
-module _ (p : Parts) (routes : Routes) (seed now : ℕ) (changed : TableChanges) (m : MailChanges) (calls : List Answer) where
+module _ (p : Parts) (routes : Routes) (seed now : ℕ) (changes : Changes) where
+  abbrev changed : TableChanges
+  changed = changes.tables
+
+  abbrev m : MailChanges
+  m = changes.mail
+
+  abbrev calls : List Answer
+  calls = changes.calls
+
   abbrev begun : Scanned
-  begun = scanned p routes seed (record { tables = changed; mail = m; calls = calls })
+  begun = scanned p routes seed changes
 
   abbrev actor : Actor
   actor = record { me = p.me; seed = seed; routes = routes }

@@ -10,7 +10,7 @@ use Rattle.ctl_store.specs.Prelude.{HasRoomForMark, KeepsRoom}
 pub keeps : (old new : Parts) → mail_room.KeepsRoom old.mail new.mail → ((c : TableChanges) → tables.HasRoomFor c old.tables → tables.HasRoomFor c new.tables) → KeepsRoom old new
 keeps old new mail kept = record {
   mark = λ room. (let before : 0 < mail_room.mark_room old.mail = room in omega (arith, mail.marks));
-  messages = mail.messages;
+  parcels = mail.parcels;
   changes = λ changes room. record {
     tables = kept changes.tables room.tables;
     mail = mail.changes (told_by changes.mail) room.mail;

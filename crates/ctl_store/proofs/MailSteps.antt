@@ -60,11 +60,11 @@ module _ (s : Scanned) (m : MailChanges) where
 
 module _ (s v : Scanned) (m : MailChanges) (result : Result (Unit {0}) Trouble) (same_scan : s ≡ v) (is : IsScan s)
     (same : (mail.told_by m).cycle ≡ (mail.told_by s.changes.mail).cycle) (of_mail : mail.AreOf s.parts.mail (mail.told_by m)) where
-  pub pop_step : (buffer : ℕ) → MailDoes (view_popped (before s m) buffer (mail.told_by s.changes.mail).cycle) result (before s m) (after s m)
+  pub pop_step : (buffer : ℕ) → MailDoes (view_popped (actor_of s.parts.me s.seed s.routes) (before s m) buffer (mail.told_by s.changes.mail).cycle) result (before s m) (after s m)
       → Steps (λ u. pop u buffer) (λ u. tt) result v (with_mail_changes s m)
   pop_step buffer does =
       subst (λ (u : Scanned). Steps (λ u. pop u buffer) (λ u. tt) result u (with_mail_changes s m)) same_scan
-      (mail_step s m (λ u. pop u buffer) (view_popped (before s m) buffer (mail.told_by s.changes.mail).cycle) result (pop-is (local_of s) buffer) is does same of_mail
+      (mail_step s m (λ u. pop u buffer) (view_popped (actor_of s.parts.me s.seed s.routes) (before s m) buffer (mail.told_by s.changes.mail).cycle) result (pop-is (local_of s) buffer) is does same of_mail
       (λ u. lawful_after _ (pop_keeps (local_of s) buffer is.lawful.scan) (pop_acts (local_of s) is.lawful.acts is.lawful.scan.fits.mail.inbox_ascends buffer) u))
 
   pub recycle_step : (buffer : ℕ) (latency : ℤ) → MailDoes (view_recycled (before s m) buffer latency (mail.told_by s.changes.mail).cycle) result (before s m) (after s m)

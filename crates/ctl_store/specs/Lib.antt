@@ -6,4 +6,5 @@ pub mod Lending
 pub mod Room
 pub mod Scanned
 pub mod Sealed
+pub mod Takes
 pub mod Prelude

@@ -9,20 +9,20 @@ use Rattle.ctl_store.specs.Room.{HasRoomForChanges}
 
 -- the controller that it makes of one
 abbrev pub outcome_ctl : Outcome → Ctl → Ctl
-outcome_ctl o ctl = changed_ctl o.changes ctl
+outcome_ctl o ctl = changed_ctl o.changes.value ctl
 
 abbrev pub outcome_acts : Outcome → Acts
-outcome_acts o = acts_of o.changes
+outcome_acts o = acts_of o.changes.value
 
 abbrev pub note_of : Outcome → FireNote
 note_of o = o.note
 
 -- it can be applied to the controller
 abbrev pub IsOutcomeFor : Outcome → Ctl → Type 0
-IsOutcomeFor o ctl = FitChanges o.changes ctl
+IsOutcomeFor o ctl = FitChanges o.changes.value ctl
 
 abbrev pub HasRoomForOutcome : Parts → Outcome → Type 0
-HasRoomForOutcome p o = HasRoomForChanges p o.changes
+HasRoomForOutcome p o = HasRoomForChanges p o.changes.value
 
 -- it is what a scan with this view has done
 pub record IsOutcomeOf (v : LocalView) (note : FireNote) (o : Outcome) : Type 0 where

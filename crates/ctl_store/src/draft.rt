@@ -7,7 +7,6 @@ use crate::scratch::Scratch;
 use crate::store::Store;
 use ctl_face::Routes;
 use run_journal::FireNote;
-use std::alloc::Global;
 
 /// A draft of one scan of the controller that a store keeps: it reads through to the store, and keeps beside it what the scan
 /// changes. A draft that is dropped has changed nothing; one that is sealed gives what it has changed, to be applied to the store.
@@ -30,20 +29,9 @@ impl<'a> Draft<'a> {
     ghost use Rattle.ctl_store.specs.Sealed.{IsOutcomeOf};
 
     /// A draft of a scan of the store's controller in a cycle, which has changed nothing yet: the controller fits its machine in
-    /// this cycle, and the routes are ones that it may go by. It takes no memory.
-    pub fn on(alloc: Global, store: &'a Store, routes: &'a Routes, seed: u64, now: u64) -> Draft<'a>
-        requires routes { HasRoutes (machine_of store.now) (me_of store.now) routes.now }
-        requires cycle { now ≤ last_cycle }
-        requires fits { Fits (machine_of store.now) (me_of store.now) (ctl_of store.now) now }
-        ensures { view_of result ≡ scan_view (machine_of store.now)
-            (record { me = me_of store.now; seed = seed; routes = routes.now }) now (ctl_of store.now) }
-    {
-        Draft::with(alloc, Scratch::new(alloc), store, routes, seed, now)
-    }
-
-    /// The same, which keeps what it changes in lists that an earlier scan may have left, whatever is in them.
-    pub fn with(
-        alloc: Global,
+    /// this cycle, and the routes are ones that it may go by. It keeps what it changes in lists that an earlier scan may have left,
+    /// whatever is in them, and takes no memory.
+    pub fn on(
         scratch: Scratch,
         store: &'a Store,
         routes: &'a Routes,
@@ -56,7 +44,7 @@ impl<'a> Draft<'a> {
         ensures { view_of result ≡ scan_view (machine_of store.now)
             (record { me = me_of store.now; seed = seed; routes = routes.now }) now (ctl_of store.now) }
     {
-        let scan = Scan::begin(alloc, scratch, &store.parts, routes, seed, now);
+        let scan = Scan::begin(scratch, &store.parts, routes, seed, now);
         scan.law();
         Draft { scan }
     }

@@ -105,6 +105,10 @@ impl<'a> Local for Draft<'a> {
         self.scan.send(buffer, latency, fields)
     }
 
+    fn slots(&self, buffer: u16) -> Option<u64> {
+        self.scan.slots(buffer)
+    }
+
     fn read_back(&mut self, line: u64, block: &Block) -> Result<(), Trouble> {
         self.scan.read_back(line, block)
     }

@@ -3,10 +3,11 @@ ghost use Rattle.std.specs.Borrow.{sem};
 ghost use Rattle.std.specs.Option.{option_copied, option_copied_mut};
 ghost use Rattle.ctl_store.specs.Kept.{ctl_of, requests_of};
 ghost use Rattle.ctl_store.specs.Lending.{LendsSequencer};
-ghost use Rattle.ctl_store.specs.Room.{HasRoomForMessages, IsSameStore, KeepsRoom};
+ghost use Rattle.ctl_store.specs.Room.{HasRoomForParcels, IsSameStore, KeepsRoom};
 
 use crate::scratch::Scratch;
 use crate::store::Store;
+use ruby_value::NoMemory;
 use sequencer::Sequencer;
 use std::alloc::Global;
 
@@ -32,8 +33,8 @@ impl Store {
         ensures taken { requests_of result ≡ (ctl_of self.old).sequencer }
         ensures after { ctl_of self.new ≡ record (ctl_of self.old) { sequencer = None } }
         ensures store { IsSameStore self.old self.new }
-        ensures room { (messages : ℕ) → HasRoomForMessages self.old messages
-            → HasRoomForMessages self.new messages }
+        ensures room { (messages : ℕ) → HasRoomForParcels self.old messages
+            → HasRoomForParcels self.new messages }
     {
         self.parts.sequencer.take()
     }
@@ -42,20 +43,21 @@ impl Store {
     pub fn put_sequencer(&mut self, sequencer: Option<Sequencer>)
         ensures after { ctl_of self.new ≡ record (ctl_of self.old) { sequencer = requests_of sequencer } }
         ensures store { IsSameStore self.old self.new }
-        ensures room { (messages : ℕ) → HasRoomForMessages self.old messages
-            → HasRoomForMessages self.new messages }
+        ensures room { (messages : ℕ) → HasRoomForParcels self.old messages
+            → HasRoomForParcels self.new messages }
     {
         self.parts.sequencer = sequencer;
     }
 
-    /// Moves out the lists that the last scan has left, for the next one to use, or ones without room. It takes no memory.
-    pub fn take_scratch(&mut self, alloc: Global) -> Scratch
+    /// Moves out the lists that the last scan has left, for the next one to use. Where it has left none they are new ones, or there
+    /// is no memory for their place.
+    pub fn take_scratch(&mut self, alloc: Global) -> Result<Scratch, NoMemory>
         ensures same { ctl_of self.new ≡ ctl_of self.old }
         ensures store { IsSameStore self.old self.new }
         ensures kept { KeepsRoom self.old self.new }
     {
         match self.parts.scratch.take() {
-            Some(scratch) => scratch,
+            Some(scratch) => Ok(scratch),
             None => Scratch::new(alloc),
         }
     }

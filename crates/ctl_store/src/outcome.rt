@@ -7,12 +7,13 @@ ghost use Rattle.ctl_store.specs.Sealed.{HasRoomForOutcome, IsOutcomeFor, note_o
 use crate::applying::apply;
 use crate::changes::Changes;
 use crate::store::Store;
-use ruby_value::{Delivery, Message, MsgNo, NoMemory, Sent, Seq};
+use ctl_face::Parcel;
+use ruby_value::{Delivery, MsgNo, NoMemory, Sent, Seq};
 use run_journal::FireNote;
 
 /// What a scan has done that fired: what it changes, and the transition that fired.
 pub struct Outcome {
-    pub(crate) changes: Changes,
+    pub(crate) changes: Box<Changes>,
     pub(crate) note: FireNote,
 }
 
@@ -26,7 +27,7 @@ impl Drop for Outcome {
 }
 
 impl Outcome {
-    fn into_changes(self) -> Changes
+    fn into_changes(self) -> Box<Changes>
         ensures { result ≡ self.changes }
     {
         let Outcome { changes, note: _ } = self;
@@ -74,6 +75,13 @@ impl Outcome {
     {
         self.changes.mail.sent()
     }
+
+    /// What goes to other controllers, copies and credits, in the order in which it was sent.
+    pub fn posted(&self) -> &[Delivery<Parcel>]
+        ensures { result.now ≡ (outcome_acts self.now).posted }
+    {
+        self.changes.mail.posted()
+    }
 }
 
 impl Store {
@@ -90,10 +98,10 @@ impl Store {
     }
 
     /// Makes what an outcome changes, for which there is room, and counts one more transition as fired in this cycle. The outcome
-    /// was sealed of a scan of this controller as it is. Answers the copies for other controllers with their receivers, in the order
-    /// in which they were sent. It takes no memory, and leaves room for one mark. The lists of the scan are the store's for the
-    /// next one.
-    pub fn apply(&mut self, o: Outcome) -> Seq<Delivery<Message>>
+    /// was sealed of a scan of this controller as it is. Answers what goes to other controllers with their receivers, copies and credits,
+    /// in the order in which they were sent. It takes no memory, and leaves room for one mark. The lists of the scan are the store's for
+    /// the next one.
+    pub fn apply(&mut self, o: Outcome) -> Seq<Delivery<Parcel>>
         requires sealed { IsOutcomeFor o (ctl_of self.old) }
         requires room { HasRoomForOutcome self.old o }
         requires few { (ctl_of self.old).fired + 1 < 2 ^ 64 }

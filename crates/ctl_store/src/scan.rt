@@ -1,6 +1,6 @@
 ghost use Rattle.std.specs.Prelude.{◌≡◌, ◌≤◌, Ok, Some, IfSome, is_some};
 ghost use Rattle.std.specs.Option.{option_copied};
-ghost use Rattle.ctl_face.specs.Prelude.{Fits, IsLawful, last_cycle, HasRoutes, scan_view, again, Does, Reads, enqueue, pop, IsPlace, message_at, front_now, ready, required_front, recycle, TakesMessage, stall, wake, wake_all};
+ghost use Rattle.ctl_face.specs.Prelude.{Fits, IsLawful, last_cycle, HasRoutes, scan_view, again, Does, Reads, enqueue, pop, IsPlace, message_at, front_now, ready, required_front, recycle, TakesMessage, slots, stall, wake, wake_all};
 ghost use Rattle.ctl_store.specs.Kept.{IsKept, ctl_of};
 ghost use Rattle.ctl_store.specs.Scanned.{local_of};
 ghost use Rattle.ctl_store.specs.Sealed.{IsOutcomeOf};
@@ -13,8 +13,6 @@ use crate::scratch::Scratch;
 use ctl_face::{MachineSetup, MessageAt, Routes, Trouble};
 use ruby_value::{Fields, Message};
 use run_journal::FireNote;
-use sequencer::Callbacks;
-use std::alloc::Global;
 use std::marker::Model;
 
 /// A scan of the controller that a store keeps. A contract sees the local that it is.
@@ -23,7 +21,7 @@ pub(crate) struct Scan<'a> {
     pub(crate) parts: &'a Parts,
     pub(crate) routes: &'a Routes,
     pub(crate) seed: u64,
-    pub(crate) changes: Changes,
+    pub(crate) changes: Box<Changes>,
 }
 
 impl<'a> Model for Scan<'a> {
@@ -37,15 +35,14 @@ impl<'a> Model for Scan<'a> {
 
     ghost coded = { Prim.hlevel (codes, parts_type.the_row.coded, routes_type.the_row.coded, changes_type.the_row.coded) };
 
-    ghost view = { λ s. scanned s.parts.now s.routes.now s.seed s.changes };
+    ghost view = { λ s. scanned s.parts.now s.routes.now s.seed s.changes.value };
 
-    ghost invariant = { λ s. IsScan (scanned s.parts.now s.routes.now s.seed s.changes) };
+    ghost invariant = { λ s. IsScan (scanned s.parts.now s.routes.now s.seed s.changes.value) };
 }
 
 impl<'a> Scan<'a> {
     /// No scan yet has changed anything. It takes no memory.
     pub(crate) fn begin(
-        alloc: Global,
         scratch: Scratch,
         parts: &'a Parts,
         routes: &'a Routes,
@@ -59,17 +56,8 @@ impl<'a> Scan<'a> {
         ensures { local_of result ≡ scan_view parts.now.machine (record { me = parts.now.me; seed = seed; routes = routes.now })
             now (ctl_of parts.now) }
     {
-        let Scratch {
-            mut tables,
-            mut mail,
-        } = scratch;
-        parts.tables.begin(&mut tables);
-        mail.begin(&parts.mail, now);
-        let changes = Changes {
-            tables,
-            mail,
-            calls: Callbacks::new(alloc),
-        };
+        let Scratch { mut changes } = scratch;
+        changes.begin(parts, now);
         Scan {
             parts,
             routes,
@@ -80,12 +68,9 @@ impl<'a> Scan<'a> {
 
     /// The lists of the scan, for another one.
     pub(crate) fn into_scratch(self) -> Scratch {
-        let Changes {
-            tables,
-            mail,
-            calls: _,
-        } = self.changes;
-        Scratch { tables, mail }
+        Scratch {
+            changes: self.changes,
+        }
     }
 
     /// What holds of each scan. It does nothing.
@@ -140,7 +125,13 @@ impl<'a> Scan<'a> {
         ensures does { Does (pop (local_of self.old) buffer) result (local_of self.old) (local_of self.new) }
         ensures lawful { IsLawful (local_of self.new) }
     {
-        ctl_mail::pop(&self.parts.mail, &mut self.changes.mail, buffer)
+        ctl_mail::pop(
+            &self.parts.mail,
+            &mut self.changes.mail,
+            self.parts.me,
+            self.routes,
+            buffer,
+        )
     }
 
     pub(crate) fn recycle(&mut self, buffer: u16, latency: i64) -> Result<(), Trouble>
@@ -182,6 +173,19 @@ impl<'a> Scan<'a> {
         ensures { message_at (local_of self.now) at ≡ Some result.now }
     {
         ctl_mail::message(&self.parts.mail, at)
+    }
+
+    pub(crate) fn slots(&self, buffer: u16) -> Option<u64>
+        ensures { result ≡ slots (local_of self.now) buffer }
+    {
+        ctl_mail::slots(
+            &self.parts.mail,
+            &self.changes.mail,
+            &self.parts.machine,
+            self.parts.me,
+            self.routes,
+            buffer,
+        )
     }
 
     pub(crate) fn stall(&mut self, buffer: u16, line: u64) -> Result<(), Trouble>

@@ -1,11 +1,12 @@
-ghost use Rattle.std.specs.Prelude.{◌≡◌, ◌<◌, ◌+◌, ℕ, IfOk, OnOk, count_by, length};
-ghost use Rattle.ctl_face.specs.Prelude.{at_cycle, with_arrival, with_stop, with_wake_up, IsMachine, no_requests, opening_ctl};
-ghost use Rattle.ctl_mail.specs.Prelude.{capped, is_queued, is_recycled, is_stalled, IsNewIn, IsNextMark};
+ghost use Rattle.std.specs.Prelude.{◌≡◌, ◌+◌, ℕ, IfOk, OnOk, count_by, length};
+ghost use Rattle.ctl_face.specs.Prelude.{at_cycle, with_parcel_arrival, with_stop, with_wake_up, IsMachine, no_requests, opening_ctl};
+ghost use Rattle.ctl_mail.specs.Prelude.{capped, is_queued, is_recycled, is_stalled, IsNextMark};
 ghost use Rattle.ctl_store.specs.Kept.{ctl_of, machine_of, me_of, requests_of};
-ghost use Rattle.ctl_store.specs.Room.{HasRoomForMark, HasRoomForMessages, IsSameStore, KeepsRoom};
+ghost use Rattle.ctl_store.specs.Room.{HasRoomForMark, HasRoomForParcels, IsSameStore, KeepsRoom};
+ghost use Rattle.ctl_store.specs.Takes.{Takes};
 
 use crate::parts::Parts;
-use ctl_face::{MachineSetup, Message};
+use ctl_face::{MachineSetup, Parcel};
 use ctl_mail::MailStore;
 use ctl_tables::Tables;
 use ruby_value::NoMemory;
@@ -77,15 +78,15 @@ impl Store {
         })
     }
 
-    /// Makes room for so many messages that arrive, each with its mark, and for one mark beside them, or answers that there is no
-    /// memory for them. The controller stays as it is, and no room is lost, also where there was no memory.
-    pub fn room(&mut self, messages: u32) -> Result<(), NoMemory>
+    /// Makes room for so many messages and credits that arrive, each with its mark, and for one mark beside them, or answers that there
+    /// is no memory for them. The controller stays as it is, and no room is lost, also where there was no memory.
+    pub fn room(&mut self, parcels: u32) -> Result<(), NoMemory>
         ensures same { ctl_of self.new ≡ ctl_of self.old }
         ensures store { IsSameStore self.old self.new }
-        ensures ok { OnOk result (HasRoomForMessages self.new messages) }
+        ensures ok { OnOk result (HasRoomForParcels self.new parcels) }
         ensures kept { KeepsRoom self.old self.new }
     {
-        self.parts.mail.room(messages)
+        self.parts.mail.room(parcels)
     }
 
     /// Sets a mark: a cycle at which the controller must wake. It takes no memory.
@@ -93,8 +94,8 @@ impl Store {
         requires { HasRoomForMark self.old }
         ensures after { ctl_of self.new ≡ with_wake_up (ctl_of self.old) cycle }
         ensures store { IsSameStore self.old self.new }
-        ensures room { (messages : ℕ) → HasRoomForMessages self.old (messages + 1)
-            → HasRoomForMessages self.new messages }
+        ensures room { (parcels : ℕ) → HasRoomForParcels self.old (parcels + 1)
+            → HasRoomForParcels self.new parcels }
     {
         self.parts.mail.mark(cycle);
     }
@@ -108,7 +109,8 @@ impl Store {
         self.parts.stopped = true;
     }
 
-    /// Begins a cycle: the marks below it are dropped, and nothing is counted in it yet. It takes no memory.
+    /// Begins a cycle: the marks below it are dropped, nothing is counted in it yet, and each slot is free again whose credit has arrived
+    /// by then. It takes no memory.
     pub fn begin(&mut self, now: u64)
         ensures after { ctl_of self.new ≡ at_cycle (ctl_of self.old) now }
         ensures store { IsSameStore self.old self.new }
@@ -132,17 +134,16 @@ impl Store {
         self.parts.fired
     }
 
-    /// Takes a message in, with a mark for its arrival: another actor's, whose number isn't in the inbox, for one of the
-    /// machine's buffers. It takes no memory.
-    pub fn arrive(&mut self, m: Message)
-        requires new { IsNewIn (ctl_of self.old).mail m.number }
-        requires buffer { m.buffer < length (machine_of self.old).buffers }
-        requires room { HasRoomForMessages self.old 1 }
-        ensures after { ctl_of self.new ≡ with_arrival (ctl_of self.old) m }
+    /// Takes in what comes from another actor, with a mark for its arrival: a message, whose number isn't in the inbox, for one of the
+    /// machine's buffers; or a credit. It takes no memory.
+    pub fn arrive(&mut self, p: Parcel)
+        requires takes { Takes p self.old }
+        requires room { HasRoomForParcels self.old 1 }
+        ensures after { ctl_of self.new ≡ with_parcel_arrival (ctl_of self.old) p }
         ensures store { IsSameStore self.old self.new }
-        ensures room { (more : ℕ) → HasRoomForMessages self.old (more + 1) → HasRoomForMessages self.new more }
+        ensures room { (more : ℕ) → HasRoomForParcels self.old (more + 1) → HasRoomForParcels self.new more }
     {
-        self.parts.mail.arrive(m);
+        self.parts.mail.arrive(p);
     }
 
     /// What the machine is to the store's controller.

@@ -1,13 +1,13 @@
 -- A scan of a controller that is held: it begins as a draft may, and what code has done as a round is what the run has of it.
-use Rattle.std.proofs.Common.{◌≡◌, ◌≤◌, ℕ, Bool, true, false, cond, List, Ok, Some, sym, ◌∙◌, ap, subst, slice_get, arith}
+use Rattle.std.proofs.Common.{◌≡◌, ◌≤◌, ℕ, Bool, true, false, cond, List, Ok, Some, refl, sym, ◌∙◌, ap, subst, slice_get, arith}
 use Rattle.std.proofs.lemmas.Option.{same_Some}
 use Rattle.slicc_ast.specs.declared.tree.item.Tree.{Tree}
-use Rattle.ruby_value.specs.declared.message.Message.{Message}
+use Rattle.ctl_face.specs.declared.parcel.Parcel.{Parcel}
 use Rattle.ruby_value.specs.declared.setup.MachineSetup.{MachineSetup}
 use Rattle.run_journal.specs.declared.entry.End.TheVariants as end
 use Rattle.run_journal.specs.declared.entry.FireNote.{FireNote}
 use Rattle.run_journal.specs.declared.entry.StopAt.{StopAt}
-use Rattle.protocol_runs.specs.Prelude.{Filled, Halted, Idled, Fired, Idle, Scan, World, IsSetting, FitsRun, actor_of, setup_of, Meaning, acts_told, Setting}
+use Rattle.protocol_runs.specs.Prelude.{Ends, Filled, Halted, Idled, Fired, Idle, Scan, World, IsSetting, FitsRun, actor_of, setup_of, Meaning, acts_told, Setting}
 use Rattle.ctl_face.specs.Prelude.{Acts, again, Ctl, Fits, IsLawful, IsOfMachine, last_cycle, Actor, LocalView, HasRoutes, scan_view}
 use Rattle.ctl_face.specs.declared.routes.Routes.{Routes}
 use Rattle.ctl_face.proofs.OwnBuffers.{fit_each}
@@ -23,10 +23,12 @@ use Rattle.body_meaning.specs.declared.frame.RoundEnd.{RoundEnd}
 use Rattle.body_meaning.specs.declared.frame.RoundEnd.TheVariants as round
 use Rattle.body_meaning.specs.Prelude.{IsRoundOf, left_idle}
 use Rattle.sequencer.specs.Prelude.{Drive, Seat}
-use Rattle.world_state.specs.Prelude.{rested}
+use Rattle.world_state.specs.Prelude.{ended, rested}
 use Rattle.world_events.specs.declared.world.Held.{Held}
-use Rattle.world_events.specs.Prelude.{Holds, IsScanEnded, IsScanFired, ctl_in, IsWorldOf, WorldView, rules_in, setting_in}
-use Rattle.one_worker.specs.Prelude.{begun}
+use Rattle.world_events.specs.Prelude.{Holds, IsSameHeld, IsScanEnded, IsScanFired, ctl_in, IsWorldOf, WorldView, rules_in, setting_in}
+use Rattle.one_worker.specs.declared.scanning.Scanned.{Scanned}
+use Rattle.one_worker.specs.declared.scanning.Scanned.TheVariants as came
+use Rattle.one_worker.specs.Scanned.{IsScanned, begun}
 
 -- the controller of a scan that rests
 rests : (before after : LocalView) (b : Bool) → after.acts.again ≡ b → (left_idle before after).ctl ≡ rested b before.now before.ctl
@@ -93,7 +95,7 @@ module _ {D : Type 0} (drive : D → List Seat → ℕ → Drive D) (least : D �
       local = subst (IsLocalOf v.trees h.machine) (sym begins) own;
     }
 
-  abbrev scanned : Scan Ctl Message
+  abbrev scanned : Scan Ctl Parcel
   scanned = (rules_in drive v).scan h.controller (ctl_in h) h.cycle
 
   scan-is : scanned ≡ P.scan h.machine (begun h) h.limit
@@ -107,7 +109,7 @@ module _ {D : Type 0} (drive : D → List Seat → ℕ → Drive D) (least : D �
       (does : IsRoundOf (scan_of v.trees h.machine h.limit h.fired before) (Ok e) after before) where
     told : scanned.outcome ≡ outcome_of_round e after before
     told =
-        ap (λ (s : Scan Ctl Message). s.outcome) scan-is
+        ap (λ (s : Scan Ctl Parcel). s.outcome) scan-is
         ∙ ap (λ (u : LocalView). (P.scan h.machine u h.limit).outcome) (sym begins)
         ∙ ap (λ (n : ℕ). outcome_of (scan_of v.trees h.machine h.limit n before))
         (ap (λ (u : LocalView). u.ctl.fired) begins ∙ sym holds.fired)
@@ -142,3 +144,47 @@ module _ {D : Type 0} (drive : D → List Seat → ℕ → Drive D) (least : D �
 
     pub stop-is : (stalled : Bool) (at : StopAt) → e ≡ round.Stop at → IsScanEnded drive v (record h { stalled = stalled }) (end.Stop at)
     stop-is stalled at is = Halted at (told ∙ ap (λ (x : RoundEnd). outcome_of_round x after before) is)
+
+-- what is held stays, but for room
+pub same-none : (h : Held) → IsSameHeld h h
+same-none h = record {
+  controller = refl;
+  machine = refl;
+  cycle = refl;
+  seed = refl;
+  limit = refl;
+  fired = refl;
+  stalled = refl;
+  ctl = refl;
+  store = record { machine = refl; me = refl };
+  routes = refl;
+}
+
+pub same-then : (h k g : Held) → IsSameHeld h k → IsSameHeld k g → IsSameHeld h g
+same-then h k g first second = record {
+  controller = second.controller ∙ first.controller;
+  machine = second.machine ∙ first.machine;
+  cycle = second.cycle ∙ first.cycle;
+  seed = second.seed ∙ first.seed;
+  limit = second.limit ∙ first.limit;
+  fired = second.fired ∙ first.fired;
+  stalled = second.stalled ∙ first.stalled;
+  ctl = second.ctl ∙ first.ctl;
+  store = record { machine = second.store.machine ∙ first.store.machine; me = second.store.me ∙ first.store.me };
+  routes = second.routes ∙ first.routes;
+}
+
+held-same : (P : ℕ → Ctl → ℕ → Type 0) (h g : Held) → IsSameHeld h g → P h.controller (ctl_in h) h.cycle → P g.controller (ctl_in g) g.cycle
+held-same P h g same is =
+    subst (λ (c : ℕ). P c (ctl_in g) g.cycle) (sym same.controller)
+    (subst (λ (x : Ctl). P h.controller x g.cycle) (sym same.ctl)
+    (subst (P h.controller (ctl_in h)) (sym same.cycle) is))
+
+-- so what a scan has come to does too
+pub scanned-same : {D : Type 0} (drive : D → List Seat → ℕ → Drive D) (v : WorldView D) (h g : Held) → IsSameHeld h g → (s : Scanned) → IsScanned drive v h s → IsScanned drive v g s
+scanned-same drive v h g same (came.Fired o) is = record {
+  scanned =
+      held-same (λ c x n. ((rules_in drive v).scan c x n).outcome ≡ Fired (note_of o) (acts_told (outcome_acts o)) (outcome_acts o).posted (outcome_ctl o x)) h g same is.scanned;
+  fits = held-same (λ c x n. IsOutcomeFor o x) h g same is.fits;
+}
+scanned-same drive v h g same (came.Ended e stalled) is = held-same (λ c x n. Ends (rules_in drive v) c n x (ended stalled n x e) e) h g same is

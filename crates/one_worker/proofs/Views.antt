@@ -4,7 +4,7 @@ use Rattle.std.specs.Option.{option_map_or}
 use Rattle.std.proofs.lemmas.List.Quantifiers.{position-Some}
 use Rattle.std.proofs.lemmas.Option.{slice_get-get_or}
 use Rattle.slicc_ast.specs.declared.tree.item.Tree.{Tree}
-use Rattle.ruby_value.specs.declared.message.Message.{Message}
+use Rattle.ctl_face.specs.declared.parcel.Parcel.{Parcel}
 use Rattle.run_journal.specs.declared.event.Event.{Event}
 use Rattle.run_journal.specs.declared.event.Event.TheVariants.{Done, Fire, Take, Turn}
 use Rattle.run_journal.specs.declared.verdict.Verdict.{Verdict}
@@ -38,7 +38,7 @@ fewer-by : (a b c d : ℕ) → a ≡ b → c ≡ d → d + 1 ≡ b → c < a
 fewer-by a b c d first second fewer = omega arith
 
 module _ {D : Type 0} (drive : D → List Seat → ℕ → Drive D) where
-  abbrev rules-by : List Tree → Topology → RunLimits → D → Rules Ctl Message D
+  abbrev rules-by : List Tree → Topology → RunLimits → D → Rules Ctl Parcel D
   rules-by trees t limits driver = rules (meaning_of trees) drive (setting_of trees t limits.seed limits.cycles limits.limit driver)
 
   -- a later world of a run goes by the same rules
@@ -80,14 +80,14 @@ module _ {D : Type 0} (drive : D → List Seat → ℕ → Drive D) where
     opening = other.opening ∙ one.opening;
     adds =
         adds-then (rules_in drive first) first.history second.history third.history one.adds
-        (subst (λ (r : Rules Ctl Message D). AddsAlone r second.history third.history)
+        (subst (λ (r : Rules Ctl Parcel D). AddsAlone r second.history third.history)
         (same-rules first second one.trees one.topology one.limits one.opening) other.adds);
   }
 
   -- all of it is by one worker, where nothing had happened before
   pub alone-all : (old new : WorldView D) → HasAddedAlone drive old new → old.history ≡ [] → IsAlone (rules_in drive new) new.history
   alone-all old new added none =
-      subst (λ (r : Rules Ctl Message D). IsAlone r new.history) (sym (same-rules old new added.trees added.topology added.limits added.opening))
+      subst (λ (r : Rules Ctl Parcel D). IsAlone r new.history) (sym (same-rules old new added.trees added.topology added.limits added.opening))
       (adds-all (rules_in drive old) new.history (subst (λ (h : List Event). AddsAlone (rules_in drive old) h new.history) none added.adds))
 
   -- an event is a step from the one world to the other
@@ -97,7 +97,7 @@ module _ {D : Type 0} (drive : D → List Seat → ℕ → Drive D) where
       let same = same-rules old new added.trees added.topology added.limits added.opening in
       last-step (rules_in drive old) old.history e w after old.journal new.journal is
       (subst (λ (h : List Event). IsRun (rules_in drive old) h after new.journal) added.history
-      (subst (λ (r : Rules Ctl Message D). IsRun r new.history after new.journal) same leads))
+      (subst (λ (r : Rules Ctl Parcel D). IsRun r new.history after new.journal) same leads))
 
   pub event-stays : (old new : WorldView D) (e : Event) → HasAdded old e new → stays e ≡ true → AreWorlds drive Stays old new
   event-stays old new e added quiet =

@@ -28,7 +28,7 @@ fn wake_held<P: Protocol, D: Driver>(
 {
     'scans: loop {
         world.law();
-        match scan(alloc, protocol, world, WORKER, &held)? {
+        match scan(alloc, protocol, world, WORKER, &mut held)? {
             Scanned::Fired(outcome) => match world.fire(WORKER, &mut held, outcome) {
                 Ok(_) => {}
                 Err((error, _)) => return Err(error),

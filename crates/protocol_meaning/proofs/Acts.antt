@@ -11,7 +11,7 @@ use Rattle.ruby_value.specs.declared.asked.BackFault.{BackFault}
 use Rattle.ruby_value.specs.declared.fault.Fault.TheVariants as fault
 use Rattle.ruby_value.specs.Callback as callback
 use Rattle.ruby_value.specs.Prelude.{Requests}
-use Rattle.acts.specs.Prelude.{Act, Now, Me, Get, Set, Lookup, Avail, Probe, Allocate, Deallocate, Touch, Free, Ready, Front, Pop, Stall, Wake, WakeAll, Recycle, Send, ReadBack, WriteBack, State, SetState, Again, answer, Acting, ends, stops, acts, follow, run, Done, changes, does, does_served, reads, serves}
+use Rattle.acts.specs.Prelude.{Act, Now, Me, Get, Set, Lookup, Avail, Probe, Allocate, Deallocate, Touch, Free, Ready, Front, Pop, Stall, Wake, WakeAll, Recycle, Send, Slots, ReadBack, WriteBack, State, SetState, Again, answer, Acting, ends, stops, acts, follow, run, Done, changes, does, does_served, reads, serves}
 use Rattle.protocol_meaning.specs.Prelude.{IsMember}
 use Rattle.protocol_meaning.proofs.Bodies.{AnswersWithin, AsksWithin, EndsWithin, Stays}
 use Rattle.protocol_meaning.proofs.Bounds.{Bounds, ViewWithin}
@@ -100,6 +100,7 @@ act_keeps b (Wake line) v is asks = (wake_keeps b v is line, tt)
 act_keeps b WakeAll v is asks = (wake_all_keeps b v is, tt)
 act_keeps b (Recycle buffer latency) v is asks = changed b v is (λ _. Unit {0}) tt (recycle v buffer latency) (recycle_keeps b v is buffer latency) tt
 act_keeps b (Send buffer latency fields) v is asks = changed b v is (λ _. Unit {0}) tt (enqueue v buffer latency fields) (send_keeps b v is buffer latency fields asks) tt
+act_keeps b (Slots buffer) v is asks = (is, tt)
 act_keeps b (ReadBack line block) v is asks = changed b v is (λ _. Unit {0}) tt (read_back v line block) (called_keeps b v is (λ r. callback.read_back r line block) v.ctl.sequencer) tt
 act_keeps b (WriteBack line block) v is asks = changed b v is (λ _. Unit {0}) (block_after_write v line block) (write_back v line block) (called_keeps b v is (λ r. callback.write_back r line block) v.ctl.sequencer) tt
 act_keeps b (State line) v is asks = (is, state_reads b v is line)

@@ -3,9 +3,10 @@
 use Rattle.std.specs.Prelude.{◌≡◌, ℕ, IfSome, List, Some, slice_get}
 use Rattle.std.specs.List.{All}
 use Rattle.ruby_value.specs.declared.message.Delivery.{Delivery}
-use Rattle.ruby_value.specs.declared.message.Message.{Message}
 use Rattle.ruby_value.specs.declared.value.Ref.{Ref}
 use Rattle.ruby_value.specs.declared.value.Value.{Value}
+use Rattle.ctl_face.specs.declared.parcel.Parcel.{Parcel}
+use Rattle.ctl_face.specs.declared.parcel.Parcel.TheVariants as parcel
 use Rattle.ctl_face.specs.Prelude.{LocalView, initial_fields, ParameterTable}
 use Rattle.protocol_meaning.specs.Prelude.{Extent, AreWithin, IsController, IsMember, HoldsWithin}
 
@@ -16,9 +17,14 @@ pub record Bounds : Type 0 where
   pub table : ℕ
   pub values : List Value
 
+-- what a parcel brings; a credit has no such values
+abbrev pub ParcelWithin : Extent → Parcel → Type 0
+ParcelWithin e (parcel.Message m) = AreWithin e m.fields
+ParcelWithin e (parcel.Credit c) = Unit {0}
+
 module _ (b : Bounds) where
-  abbrev pub CopyWithin : Delivery Message → Type 0
-  CopyWithin c = AreWithin b.extent c.message.fields
+  abbrev pub CopyWithin : Delivery Parcel → Type 0
+  CopyWithin c = ParcelWithin b.extent c.message
 
   pub record ViewWithin (v : LocalView) : Type 0 where
     pub holds : HoldsWithin b.extent b.states v.ctl

@@ -7,7 +7,7 @@ use Rattle.std.proofs.lemmas.List.Elements.{All-head, All-tail}
 use Rattle.std.proofs.lemmas.List.FromFn.{get_or-map-range_with_len, get_or-range_with_len, length-map-range_with_len, length-range_with_len}
 use Rattle.ruby_symbols.specs.declared.symbols.Symbols.{Symbols}
 use Rattle.ruby_topology.specs.declared.forms.Statement.{Statement}
-use Rattle.ruby_topology.specs.declared.forms.Statement.TheVariants.{Machine, Network, Link, Jitter, Ordered, Cache, Tbes, Set}
+use Rattle.ruby_topology.specs.declared.forms.Statement.TheVariants.{Machine, Network, Link, Jitter, Ordered, Cache, Tbes, Size, Set}
 use Rattle.ruby_topology.specs.Prelude.{count_or_none, count_in, count_of, jitter_in, jitter_said, counts_of, lacks_line, IsWithin}
 use Rattle.protocol_meaning.proofs.Lines.{none_passes}
 
@@ -28,6 +28,7 @@ some_count (s ∷ said) machine within e =
     first (Ordered n) here rest e = rest e
     first (Cache m table sets ways) here rest e = rest e
     first (Tbes m table entries) here rest e = rest e
+    first (Size m buffer slots) here rest e = rest e
     first (Set m value number) here rest e = rest e
 
 pub some_of_each : (symbols : Symbols) (said : List Statement) → All IsWithin said → lacks_line symbols said ≡ false → All (λ (c : ℕ). 1 ≤ c) (counts_of symbols said)

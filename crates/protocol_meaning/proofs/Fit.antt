@@ -1,29 +1,33 @@
 -- A topology fits its protocol.
 use Rattle.std.proofs.Common.{◌≡◌, ◌<◌, ◌≤◌, ◌+◌, ◌∙◌, ℕ, Bool, Option, Some, List, ap, refl, sym, subst, arith, get_or, length, sum}
-use Rattle.std.specs.Prelude.{IsSomeAnd, slice_get}
+use Rattle.std.specs.Prelude.{AllPairs, IsSomeAnd, slice_get}
 use Rattle.std.specs.List.{All}
 use Rattle.std.specs.Option.{option_map}
 use Rattle.std.proofs.lemmas.List.{length-map}
 use Rattle.std.proofs.lemmas.List.Elements.{All-map, All-weaker}
 use Rattle.std.proofs.lemmas.List.FromFn.{length-map-range_with_len}
 use Rattle.std.proofs.lemmas.Option.{slice_get_within}
+use Rattle.ruby_value.specs.declared.setup.BufferSetup.{BufferSetup}
 use Rattle.ruby_value.specs.declared.setup.MachineSetup.{MachineSetup}
 use Rattle.ruby_value.specs.declared.setup.Sizes.{Sizes}
+use Rattle.ruby_symbols.specs.declared.machine.MachineSymbols.{MachineSymbols}
 use Rattle.slicc_ast.specs.declared.tree.item.Tree.{Tree}
 use Rattle.slicc_ast.specs.declared.tree.machine.Machine.{Machine}
 use Rattle.slicc_plan.specs.Prelude.{machines_of, AreSizesOf, HasTypeOf, setup_in, setup_of, symbols_of, machine_symbols, HasNetworks, HasNumbers, ReceivesOnce}
-use Rattle.ctl_face.specs.Prelude.{IsMachine, AgreeOnTypes, AreNumbered, HasShape, IsOfMachine, KeepsOrder, NamesBuffers, ReceivesFrom, RoutesFit}
+use Rattle.ctl_face.specs.Prelude.{IsMachine, AgreeOnTypes, AreNumbered, HasShape, IsOfMachine, IsReceiving, IsSameBuffer, IsSlot, KeepsOrder, NamesBuffers, ReceivesFrom, RoutesFit, buffer_place, most_slots, receives, slot_buffer, slot_size}
 use Rattle.ruby_topology.specs.declared.forms.Member.{Member}
 use Rattle.ruby_topology.specs.declared.forms.Statement.{Statement}
 use Rattle.ruby_topology.specs.declared.topology.Topology.{Topology}
-use Rattle.ruby_topology.specs.Prelude.{AreRows, IsBetween, HasParts, is_ordered_on, links_of, members_from, network_of, receiving_at, receiving_of, sizes_of, IsWithin}
+use Rattle.ruby_topology.specs.Prelude.{AreRows, IsBetween, HasParts, is_ordered_on, links_of, members_from, network_of, receiving_at, receiving_of, sizes_of, slots_from, IsWithin}
+use Rattle.ruby_topology.proofs.Slots.{IsSizedBuffer, slots_are_buffers, slots_once, slots_small}
 use Rattle.ruby_topology.proofs.Totals.{length_of_members, links_between, links_short, network_within}
 use Rattle.protocol_meaning.specs.Prelude.{AreSeatsOf, AreSizesIn, AreSizesOfAll, FitsPlan, ranges_of, setups_of}
 use Rattle.machine_setup.proofs.Lawful.{all_alike}
+use Rattle.protocol_meaning.proofs.Buffers.{buffers_paired, setup_of_symbol}
 use Rattle.protocol_meaning.proofs.Counts.{jitter_small}
-use Rattle.protocol_meaning.proofs.Lines.{AreKnown, IsSound}
+use Rattle.protocol_meaning.proofs.Lines.{AreKnown, IsNewAfter, IsSound}
 use Rattle.slicc_plan.proofs.Machines.{symbols_counted}
-use Rattle.protocol_meaning.proofs.ByNumber.{IsSetupOf, setup_found, setups_counted, symbols_found}
+use Rattle.protocol_meaning.proofs.ByNumber.{IsSetupOf, machine_found, setup_found, setup_there, setups_counted, symbols_found}
 use Rattle.protocol_meaning.proofs.Numbers.{ranges_counted, ranges_numbered}
 use Rattle.protocol_meaning.proofs.Paths.{own_paths_none, rows_shaped, rows_small}
 use Rattle.protocol_meaning.proofs.Places.{all_at, all_from_gets, if_some, ranged_at, some_and}
@@ -126,6 +130,25 @@ module _ (trees : List Tree) (t : Topology) (said : List Statement) (laws : AreL
       (all_at HasNetworks (symbols_of trees).machines k (machine_symbols trees k h.tree) laws.networks at)
       (all_at ReceivesOnce (symbols_of trees).machines k (machine_symbols trees k h.tree) laws.once at))
 
+  slot_there : (s : ℕ × ℕ × ℕ) → IsSizedBuffer (symbols_of trees) t.counts s → IsSlot (setups_of trees t.sizes) (ranges_of t) s
+  slot_there s h =
+      let owns = h.owns in
+      let k = h.machine in
+      let found = machine_found trees k owns.m owns.is_m in
+      let own = sized k (slice_get_within (machines_of trees) k found.tree found.at) in
+      let setup : MachineSetup = setup_in trees k own.0 found.tree in
+      let symbol : slice_get (machine_symbols trees k found.tree).buffers (slot_buffer s) ≡ Some owns.symbol =
+      ap (λ (x : MachineSymbols). slice_get x.buffers (slot_buffer s)) found.symbols ∙ owns.is_symbol in
+      let buffer = setup_of_symbol trees k setup.buffers (machine_symbols trees k found.tree).buffers (slot_buffer s) owns.symbol (buffers_paired trees k own.0 found.tree) symbol in
+      let pair = buffer.pair in
+      let place : buffer_place setup (slot_buffer s) ≡ Some owns.symbol.place = ap (option_map (λ (b : BufferSetup). b.place)) buffer.at ∙ ap Some (sym pair.same_place) in
+      record {
+        machine = k;
+        of_machine = h.of_machine;
+        receiving = some_and (λ (m : MachineSetup). IsReceiving m (slot_buffer s)) (slice_get (setups_of trees t.sizes) k) setup
+            (setup_there trees t.sizes k found.tree own.0 sizes_counted found.at own.1) (ap receives place ∙ owns.is_receiving);
+      }
+
   routes_fit : RoutesFit (setups_of trees t.sizes) (ranges_of t) t.routes
   routes_fit =
       let all = length_of_members 0 t.counts in
@@ -146,6 +169,7 @@ module _ (trees : List Tree) (t : Topology) (said : List Statement) (laws : AreL
               (subst (λ n. All (IsBetween n) (links_of (members_from 0 t.counts) said)) all (links_between (members_from 0 t.counts) said within))
               (links_short (members_from 0 t.counts) said within);
           jitter = subst (λ n. n ≤ 1000) (sym parts.routes.jitter) (jitter_small said within);
+          sizes = subst (All (λ s. slot_size s ≤ most_slots)) (sym parts.routes.slots) (slots_small said 0 (members_from 0 t.counts) within);
         };
         own_paths = own_paths_none (network_of said) (links_of (members_from 0 t.counts) said) (sum t.counts) t.routes.paths paths_are t.routes refl;
         order = all_from_gets (λ (m : MachineSetup). All (KeepsOrder t.routes) m.buffers) (setups_of trees t.sizes)
@@ -157,6 +181,11 @@ module _ (trees : List Tree) (t : Topology) (said : List Statement) (laws : AreL
             (λ x at. received k n x of (setup_found trees t.sizes k x sizes_counted at));
         named = λ k n of. if_some (λ (m : MachineSetup). NamesBuffers m.buffers n t.routes) (slice_get (setups_of trees t.sizes) k)
             (λ x at. named k n x of (setup_found trees t.sizes k x sizes_counted at));
+        slots = subst (All (IsSlot (setups_of trees t.sizes) (ranges_of t))) (sym parts.routes.slots)
+            (All-weaker (IsSizedBuffer (symbols_of trees) t.counts) (IsSlot (setups_of trees t.sizes) (ranges_of t)) slot_there (slots_from said 0 (members_from 0 t.counts))
+            (slots_are_buffers (symbols_of trees) t.counts (IsSound (symbols_of trees)) (λ machine buffer n sound. sound.own) said known.sound));
+        one_size = subst (AllPairs (λ a b. ¬ (IsSameBuffer a b))) (sym parts.routes.slots)
+            (slots_once IsNewAfter (λ machine buffer n m b k new. new) said known.once 0 (members_from 0 t.counts));
       }
 
   pub fits_with : AreSeatsOf trees t → FitsPlan trees t

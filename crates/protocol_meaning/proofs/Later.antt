@@ -1,7 +1,8 @@
 -- What comes later is nothing to a try, and so to a scan: an induction over what a scan does as data, with one case for acts.
-use Rattle.std.proofs.Common.{◌≡◌, ◌∙◌, ◌∷◌, ℕ, Bool, true, false, List, Result, Ok, Err, nat_le, refl, sym, ap, subst}
+use Rattle.std.proofs.Common.{◌≡◌, ◌<◌, ◌∙◌, ◌∷◌, ℕ, All, Bool, true, false, List, Result, Ok, Err, nat_le, refl, sym, ap, subst}
 use Rattle.ruby_value.specs.declared.fault.Fault.{Fault}
 use Rattle.run_journal.specs.declared.entry.StopAt.{StopAt}
+use Rattle.ctl_face.specs.declared.parcel.Credit.{Credit}
 use Rattle.ctl_face.specs.Prelude.{again, Ctl, IsLawful, Actor, LocalView, SameScan}
 use Rattle.acts.specs.Prelude.{Act, Again, answer, Acting, ends as ends_body, acts as acts_in, follow, run, HoldsAfter, Done, does, Added, AreNew, IsNew, after_adding, with_added}
 use Rattle.acts.proofs.Framed.{frame}
@@ -36,6 +37,7 @@ still_new : (v w : LocalView) (more : Added) → SameScan v w → AreNew v more 
 still_new v w more scan new = record {
   each = λ k d within.
       new_in v.actor.me w.actor.me v.now w.now v.start w.start more (ap (λ (a : Actor). a.me) scan.actor) scan.now scan.start _ (new.each k d within);
+  credits_later = subst (λ (n : ℕ). All (λ (c : Credit). n < c.arrival) more.credits) (sym scan.now) new.credits_later;
   differ = new.differ;
 }
 

@@ -1,4 +1,4 @@
--- What is known of all that the lines of a file say: it is within the ranges, it is of the machine's own tables and numbers, it is
+-- What is known of all that the lines of a file say: it is within the ranges, it is of the machine's own tables, buffers and numbers, it is
 -- said once, and there are 64 controllers at most.
 use Rattle.std.proofs.Common.{◌≡◌, ◌<◌, ◌≤◌, ◌+◌, ◌*◌, ◌∙◌, ◌&&◌, ℕ, Bool, true, false, cond, eqb, leb, ltb, Option, None, Some, Result, Ok, Err, IfOk, List, [], ◌∷◌, ◌++◌, ap, refl, sym, subst, arith, true≢false, length, get_or, le→leb, leb-true, ltb-false}
 use Rattle.std.specs.Prelude.{AllPairs, pos, ◌≤ℤ◌, slice_get}
@@ -22,13 +22,14 @@ use Rattle.ruby_topology.specs.declared.forms.Form.TheVariants as form
 use Rattle.ruby_topology.specs.declared.forms.TheConstants.{T2_NUMBER, T3_NAME, T4_TWICE, T6_TOO_MANY}
 use Rattle.ruby_topology.specs.declared.forms.Network.TheVariants.{PointToPoint, Crossbar, Mesh, Links}
 use Rattle.ruby_topology.specs.declared.forms.Statement.{Statement}
-use Rattle.ruby_topology.specs.declared.forms.Statement.TheVariants.{Machine, Network, Link, Jitter, Ordered, Cache, Tbes, Set}
-use Rattle.ruby_topology.specs.Prelude.{form_of, Reading, Says, added, after_those, cache_in, cache_line, cache_named, crossbar_line, in_machine, is_int, jitter_line, judged, link_line, machine_line, mesh_line, needs, number_at, number_named, ordered_line, point_to_point_line, read_from, reading, says_in, set_line, sort_at, table_in, tbes_in, tbes_line, tbes_named, value_in, with_line, member_named, controllers, counted, is_links, is_said, network_said, sets_value, sizes_table, before_comment, is_digit, is_number_within, is_some_word, word_at, words_of, IsWithin}
+use Rattle.ruby_topology.specs.declared.forms.Statement.TheVariants.{Machine, Network, Link, Jitter, Ordered, Cache, Tbes, Size, Set}
+use Rattle.ruby_topology.specs.Prelude.{form_of, Reading, Says, added, after_those, cache_in, cache_line, cache_named, crossbar_line, in_machine, is_int, jitter_line, judged, link_line, machine_line, mesh_line, needs, number_at, number_named, ordered_line, point_to_point_line, read_from, reading, says_in, receiving_named, set_line, size_line, sizes_buffer, sort_at, table_in, tbes_in, tbes_line, tbes_named, value_in, with_line, member_named, controllers, counted, is_links, is_said, network_said, sets_value, sizes_table, before_comment, is_digit, is_number_within, is_some_word, word_at, words_of, IsWithin}
 use Rattle.ruby_topology.specs.Lines.{number_in}
 use Rattle.ruby_topology.specs.Text.{value_of}
+use Rattle.ruby_topology.proofs.Slots.{OwnsBuffer, owns_buffer}
 use Rattle.protocol_meaning.proofs.Places.{and_then_found}
 
--- The table or number that a line is about is one of its machine.
+-- The table, buffer or number that a line is about is one of its machine.
 pub record OwnsCache (symbols : Symbols) (machine table : ℕ) : Type 0 where
   pub m : MachineSymbols
   pub is_m : slice_get symbols.machines machine ≡ Some m
@@ -50,6 +51,7 @@ pub record OwnsNumber (symbols : Symbols) (machine value : ℕ) : Type 0 where
 abbrev pub IsOwn : Symbols → Statement → Type 0
 IsOwn symbols (Cache machine table sets ways) = OwnsCache symbols machine table
 IsOwn symbols (Tbes machine table entries) = OwnsTbes symbols machine table
+IsOwn symbols (Size machine buffer slots) = OwnsBuffer symbols machine buffer
 IsOwn symbols (Set machine value number) = OwnsNumber symbols machine value
 IsOwn symbols _ = Unit {0}
 
@@ -217,6 +219,18 @@ module _ (symbols : Symbols) (words : List (List ℕ)) (s : Statement) where
         own = owns_tbes symbols machine.0 table.0 (word_at words 2) table.1;
       })
 
+  size_sound : size_line symbols words ≡ Ok s → IsSound symbols s
+  size_sound e =
+      let named = λ (n m : ℕ). needs T3_NAME (in_machine symbols m (λ x. receiving_named x (word_at words 2))) (λ b. Ok (Size m b n)) in
+      let slots = needs_found T2_NUMBER (number_at words 3 0 65536) (λ n. needs T3_NAME (machine_named symbols (word_at words 1)) (named n)) s e in
+      let machine = needs_found T3_NAME (machine_named symbols (word_at words 1)) (named slots.0) s slots.2 in
+      let buffer = needs_found T3_NAME (in_machine symbols machine.0 (λ x. receiving_named x (word_at words 2))) (λ b. Ok (Size machine.0 b slots.0)) s machine.2 in
+      subst (IsSound symbols) (said_is (Size machine.0 buffer.0 slots.0) s buffer.2)
+      (record {
+        within = (bounded words 3 0 65536 slots.0 slots.1).1;
+        own = owns_buffer symbols machine.0 buffer.0 (word_at words 2) buffer.1;
+      })
+
   set_sound : set_line symbols words ≡ Ok s → IsSound symbols s
   set_sound e =
       let named = λ (n m : ℕ). needs T3_NAME (in_machine symbols m (λ x. number_named x (word_at words 2))) (λ v. Ok (Set m v (pos n))) in
@@ -242,14 +256,16 @@ says_sound symbols said words (Some form.Jitter) s e = jitter_sound symbols word
 says_sound symbols said words (Some form.Ordered) s e = ordered_sound symbols words s e
 says_sound symbols said words (Some form.Cache) s e = cache_sound symbols words s e
 says_sound symbols said words (Some form.Tbes) s e = tbes_sound symbols words s e
+says_sound symbols said words (Some form.Size) s e = size_sound symbols words s e
 says_sound symbols said words (Some form.Set) s e = set_sound symbols words s e
 
 -- A line after those before it.
 
--- the later one is about no table and no number that the earlier one is about
+-- the later one is about no table, no buffer and no number that the earlier one is about
 abbrev pub IsNewAfter : Statement → Statement → Type 0
 IsNewAfter a (Cache machine table sets ways) = sizes_table machine table a ≡ false
 IsNewAfter a (Tbes machine table entries) = sizes_table machine table a ≡ false
+IsNewAfter a (Size machine buffer slots) = sizes_buffer machine buffer a ≡ false
 IsNewAfter a (Set machine value number) = sets_value machine value a ≡ false
 IsNewAfter a _ = Unit {0}
 
@@ -270,6 +286,7 @@ new_after said (Jitter n) e k d lt = tt
 new_after said (Ordered n) e k d lt = tt
 new_after said (Cache machine table sets ways) e k d lt = none_passes (sizes_table machine table) said k d e lt
 new_after said (Tbes machine table entries) e k d lt = none_passes (sizes_table machine table) said k d e lt
+new_after said (Size machine buffer slots) e k d lt = none_passes (sizes_buffer machine buffer) said k d e lt
 new_after said (Set machine value number) e k d lt = none_passes (sets_value machine value) said k d e lt
 
 record IsJudged (symbols : Symbols) (said : List Statement) (words : List (List ℕ)) (s : Statement) : Type 0 where

@@ -1,7 +1,7 @@
 -- What a controller holds stays within an extent when its mail is changed, and what it sends is within it.
-use Rattle.std.proofs.Common.{◌==◌, ℕ, ℤ, ◌+◌, Bool, true, false, cond, not, eqb, List, [], ◌∷◌, All, IfSome, refl, Option, None, Some, Result, Ok, Err, is_some, map, nat_abs, nat_lt, slice_get, unwrap_or, length}
+use Rattle.std.proofs.Common.{◌==◌, ◌&&◌, ℕ, ℤ, ◌+◌, Bool, true, false, cond, not, eqb, List, [], ◌∷◌, All, IfSome, refl, Option, None, Some, Result, Ok, Err, is_some, map, nat_abs, nat_lt, slice_get, unwrap_or, length}
 use Rattle.std.proofs.lemmas.Bool.{cond_both}
-use Rattle.std.proofs.lemmas.List.Elements.{All-nil, All-cons, All-contains, All-filter, All-push, All-append}
+use Rattle.std.proofs.lemmas.List.Elements.{All-nil, All-cons, All-contains, All-filter, All-map, All-push, All-append}
 use Rattle.std.specs.List.{fold, list_all}
 use Rattle.std.specs.Option.{ok_or}
 use Rattle.ruby_value.specs.declared.fault.Fault.{Fault}
@@ -14,7 +14,8 @@ use Rattle.ruby_value.specs.declared.setup.BufferPlace.TheVariants as place
 use Rattle.ruby_value.specs.declared.setup.BufferSetup.{BufferSetup}
 use Rattle.ruby_value.specs.declared.value.Value.{Value}
 use Rattle.ruby_value.specs.Prelude.{same_number}
-use Rattle.ctl_face.specs.Prelude.{Acts, again, after_front, at_front, InboxMessage, Mail, after_sending, enqueue, for_others, IsFront, front, is_latency, Actor, LocalView, incoming_message, mail_with_delivery, mail_without, pop, front_now, required_front, mail_with_recycled, message_arriving_again, recycle, receiving_buffer, Sending, copy_limit, local_arrival, local_copy, network_arrival, next_copy, no_copies, receivers_of, send, sending_from, sending_on, with_network_copy, mail_with_waiting, message_waiting_under, stall, is_under, message_waiting_no_longer, wake, wake_all, with_woken, woken_mail}
+use Rattle.ctl_face.specs.declared.parcel.Credit.{Credit}
+use Rattle.ctl_face.specs.Prelude.{Acts, acts_after_dequeue, credit_for, had_slot, mail_after_dequeue, mail_if_credited, parcels_for_others, posted_credits, with_credit_parcel, with_message_parcel, again, after_front, at_front, InboxMessage, Mail, after_sending, enqueue, for_others, IsFront, front, is_latency, Actor, LocalView, incoming_message, mail_with_delivery, mail_without, pop, front_now, required_front, mail_with_recycled, message_arriving_again, recycle, receiving_buffer, Sending, copy_limit, local_arrival, local_copy, network_arrival, next_copy, no_copies, receivers_of, send, sending_from, sending_on, with_network_copy, mail_with_waiting, message_waiting_under, stall, is_under, message_waiting_no_longer, wake, wake_all, with_woken, woken_mail}
 use Rattle.ctl_face.proofs.Cases.{Good, good_ok, good_err, good_cond}
 use Rattle.ctl_face.proofs.Fronts.{front_first}
 use Rattle.ctl_face.proofs.Inboxes.{all-map, all-with, all-without}
@@ -35,6 +36,11 @@ module _ (e : Extent) where
   pub delivered : (mine : Bool) (mail : Mail) (m : Message) → AreWithin e m.fields → Inbox mail.inbox → Inbox (mail_with_delivery mine mail m).inbox
   delivered true mail m here within = all-with (MessageWithin e) mail.inbox (incoming_message m) within here
   delivered false mail m here within = within
+
+  -- a credit for itself leaves the messages
+  pub credited : (own : Bool) (mail : Mail) (c : Credit) → Inbox mail.inbox → Inbox (mail_if_credited own mail c).inbox
+  credited true mail c within = within
+  credited false mail c within = within
 
   -- what was sent
   abbrev Copies-within : List (Delivery Message) → Type 0
@@ -113,7 +119,15 @@ module _ (b : Bounds) (v : LocalView) (is : ViewWithin b v) where
 
   pub pop_keeps : (buffer : ℕ) → Good (ViewWithin b) (pop v buffer)
   pop_keeps buffer =
-      front_within _ (mail_without v.ctl.mail) (front_now v buffer) (λ n. is.posted) (λ m. all-without (MessageWithin b.extent) v.ctl.mail.inbox m.number is.holds.inbox)
+      front_within (acts_after_dequeue v.actor buffer v.now v.acts) (λ m. mail_after_dequeue v.actor buffer v.now m.number (mail_without v.ctl.mail m)) (front_now v buffer)
+      (λ n. All-append (CopyWithin b) v.acts.posted (posted_credits v.actor buffer v.now n) is.posted (no_values n))
+      (λ m. credited b.extent (had_slot v.actor buffer m.number && (m.number.sender == v.actor.me)) (mail_without v.ctl.mail m) (credit_for v.actor buffer v.now m.number).message
+      (all-without (MessageWithin b.extent) v.ctl.mail.inbox m.number is.holds.inbox))
+    where
+      no_values : (n : MsgNo) → All (CopyWithin b) (posted_credits v.actor buffer v.now n)
+      no_values n =
+          cond_both (had_slot v.actor buffer n && not (n.sender == v.actor.me)) (with_credit_parcel (credit_for v.actor buffer v.now n) ∷ []) [] (All (CopyWithin b))
+          (λ _. All-cons (CopyWithin b) (with_credit_parcel (credit_for v.actor buffer v.now n)) [] tt (All-nil (CopyWithin b))) (λ _. All-nil (CopyWithin b))
 
   pub stall_keeps : (buffer line : ℕ) → Good (ViewWithin b) (stall v buffer line)
   stall_keeps buffer line =
@@ -147,8 +161,9 @@ module _ (b : Bounds) (v : LocalView) (is : ViewWithin b v) where
       let s_within = within.good s refl in
       good_ok (ViewWithin b) _
       (mail_within s.mail _ s_within.inbox
-      (All-append (CopyWithin b) v.acts.posted (for_others v.actor.me s.copies) is.posted
-      (All-filter (λ (c : Delivery Message). not (c.receiver == v.actor.me)) (CopyWithin b) s.copies s_within.copies)))
+      (All-append (CopyWithin b) v.acts.posted (parcels_for_others v.actor.me s.copies) is.posted
+      (All-map (CopyWithin b) with_message_parcel (for_others v.actor.me s.copies)
+      (All-filter (λ (c : Delivery Message). not (c.receiver == v.actor.me)) (λ (c : Delivery Message). AreWithin b.extent c.message.fields) s.copies s_within.copies))))
   sent_within (Err f) within = good_err (ViewWithin b) f
 
   pub send_keeps : (buffer : ℕ) (latency : ℤ) (fields : List Value) → AreWithin b.extent fields → Good (ViewWithin b) (enqueue v buffer latency fields)

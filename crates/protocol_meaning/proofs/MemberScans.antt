@@ -22,7 +22,7 @@ use Rattle.body_meaning.specs.declared.frame.About.{About}
 use Rattle.body_meaning.specs.declared.frame.Flow.{Flow}
 use Rattle.body_meaning.specs.declared.frame.Flow.TheVariants.{WentOn, Returned, Triggered}
 use Rattle.body_meaning.specs.declared.thing.Trigger.{Trigger}
-use Rattle.body_meaning.specs.Prelude.{each, Reading, value_in, body_of_action, need, after_port, by_outcome, by_try, left_idle, port_block, port_done, port_tried, ports_tried, scan, unless_fired, about, action_done, arguments_for, fired, found_tried, is_among, is_for, is_short, is_stall_among, known, next_asked, next_state, permission_set, row_tried, state_answered, state_argument, state_by, state_set, table_short, try, waiting, Trying, ends, stops, acts, looks_up, follow_scan, nothing_known, run_scan, stop_at, then_try, with_known}
+use Rattle.body_meaning.specs.Prelude.{each, Reading, value_in, body_of_action, need, send_count, buffer_short, lacks_room, after_port, by_outcome, by_try, left_idle, port_block, port_done, port_tried, ports_tried, scan, unless_fired, about, action_done, arguments_for, fired, found_tried, is_among, is_for, is_short, is_stall_among, known, next_asked, next_state, permission_set, row_tried, state_answered, state_argument, state_by, state_set, table_short, try, waiting, Trying, ends, stops, acts, looks_up, follow_scan, nothing_known, run_scan, stop_at, then_try, with_known}
 use Rattle.body_meaning.specs.declared.frame.RoundEnd.TheVariants as round
 use Rattle.body_meaning.specs.declared.frame.Known.{Known}
 use Rattle.body_meaning.specs.declared.frame.Tried.{Tried}
@@ -169,10 +169,20 @@ module _ (s : Reading) (controllers : ℕ) (kept : List Value) (is : ReadingWith
   one_short_stays needs table =
       either_stays Bs (needs table == 0) (λ _. ends_stays Bs tt) (λ _. then_stays Bs (done_stays Bs (act.Free table) tt) (λ free _. ends_stays Bs tt))
 
-  short_stays : (needs : ℕ → ℕ) (table : ℕ) (ts : List TableSymbol) → Stay Bs Nothing-asked (is_short needs table ts)
-  short_stays needs table [] = ends_stays Bs tt
-  short_stays needs table (t ∷ ts) =
-      then_stays Bs (one_short_stays needs table) (λ short _. either_stays Bs short (λ _. ends_stays Bs tt) (λ _. short_stays needs (table + 1) ts))
+  few_slots_stays : (sent : ℕ → ℕ) (buffer : ℕ) → Stay Bs Nothing-asked (buffer_short sent buffer)
+  few_slots_stays sent buffer =
+      either_stays Bs (sent buffer == 0) (λ _. ends_stays Bs tt) (λ _. then_stays Bs (done_stays Bs (act.Slots buffer) tt) (λ free _. ends_stays Bs tt))
+
+  short_stays : {X : Type 0} (short : ℕ → Acting Bool) → ((number : ℕ) → Stay Bs Nothing-asked (short number)) → (number : ℕ) (xs : List X) → Stay Bs Nothing-asked (is_short short number xs)
+  short_stays short each number [] = ends_stays Bs tt
+  short_stays short each number (x ∷ xs) =
+      then_stays Bs (each number) (λ is _. either_stays Bs is (λ _. ends_stays Bs tt) (λ _. short_stays short each (number + 1) xs))
+
+  room_stays : (actions : List ℕ) → Stay Bs Nothing-asked (lacks_room s actions)
+  room_stays actions =
+      then_stays Bs (short_stays (table_short (need s actions)) (one_short_stays (need s actions)) 0 s.machine.tables)
+      (λ short _. either_stays Bs short (λ _. ends_stays Bs tt)
+      (λ _. short_stays (buffer_short (send_count s actions)) (few_slots_stays (send_count s actions)) 0 s.machine.buffers))
 
   action_stays : (a : About) (number : ℕ) → Stay Bs Nothing-asked (action_done s a number)
   action_stays a number =
@@ -203,7 +213,7 @@ module _ (s : Reading) (controllers : ℕ) (kept : List Value) (is : ReadingWith
 
   row_stays : (t : Trigger) (state : ℕ) (row : TransitionSymbol) → Of-event t.event → Of-state state → TransitionWithin Es s.machine.states s.machine.events row → Stay Bs Of-try (row_tried s t state row)
   row_stays t state row event from within =
-      then_stays Bs (short_stays (need s row.actions) 0 s.machine.tables)
+      then_stays Bs (room_stays row.actions)
       (λ short _. either_stays Bs short (λ _. waiting_stays)
       (λ _. either_stays Bs (is_stall_among row.actions s.machine.stall) (λ _. waiting_stays)
       (λ _. then_stays Bs (next_stays t.address state row.next within.next from) (λ next to. fired_stays t state next row event from to))))

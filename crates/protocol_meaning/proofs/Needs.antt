@@ -33,7 +33,8 @@ use Rattle.slicc_plan.specs.Prelude.{IsAccepted, Names, action_in, arguments_par
 use Rattle.slicc_plan.specs.BodyParts.{Written, names_in}
 use Rattle.slicc_plan.specs.Numbering.{need_of}
 use Rattle.slicc_plan.proofs.Numbering.{actions_written, needs_by_symbols, one_numbering, symbols_are}
-use Rattle.body_meaning.specs.Prelude.{Reading, action_block, block_checked, block_of, body_of_action, checked, if_checked, is_table, names_table, need, others_checked, otherwise_checked, row_checked}
+use Rattle.body_meaning.specs.Actions.{Tables, block_names, if_names, names_in as picked_in, others_names, otherwise_names, row_names}
+use Rattle.body_meaning.specs.Prelude.{Reading, action_block, block_of, body_of_action, is_table, names_table, need}
 use Rattle.protocol_meaning.specs.Prelude.{reading_of, reading_with}
 
 -- Statements: what a body has of checks is what its `check_allocate` statements name.
@@ -111,7 +112,7 @@ module _ (names : Names) where
   two_found ps qs xs ys h k = two ps qs (found xs) (found ys) h k ∙ sym (filter_map-append (number_in names.tables) xs ys)
 
   mutual
-    stmt_checks : (x : Stmt) → checks_in (stmt_parts names x) ≡ found (checked x)
+    stmt_checks : (x : Stmt) → checks_in (stmt_parts names x) ≡ found (picked_in Tables x)
     stmt_checks (Declare kind local e span) = expr_none e
     stmt_checks (Assign place e span) =
         two (assignment place span ∷ []) (expr_parts names place ++ expr_parts names e) [] []
@@ -121,42 +122,42 @@ module _ (names : Names) where
     stmt_checks (IfStmt i) = if_checks i
     stmt_checks (Peek' port message attributes shape row block span) = row_checks row
     stmt_checks (Enqueue' port message latency shape row block span) =
-        two (optional_parts names latency) (row_parts names row) [] (found (row_checked row)) (optional_none latency) (row_checks row)
+        two (optional_parts names latency) (row_parts names row) [] (found (row_names Tables row)) (optional_none latency) (row_checks row)
     stmt_checks (StallAndWait port address span) = expr_none address
     stmt_checks (CheckAllocate table span) = check_found (number_in names.tables table.text)
     stmt_checks (Error text span) = refl
     stmt_checks (Assert condition span) = expr_none condition
     stmt_checks (Print which arguments span) = refl
 
-    if_checks : (i : If) → checks_in (if_parts names i) ≡ found (if_checked i)
+    if_checks : (i : If) → checks_in (if_parts names i) ≡ found (if_names Tables i)
     if_checks (If' condition shape row block n others otherwise span) =
         two (expr_parts names condition) (row_parts names row ++ (others_parts names others ++ otherwise_parts names otherwise)) []
-        (found (row_checked row ++ (others_checked others ++ otherwise_checked otherwise))) (expr_none condition)
-        (two_found (row_parts names row) (others_parts names others ++ otherwise_parts names otherwise) (row_checked row) (others_checked others ++ otherwise_checked otherwise) (row_checks row)
-        (two_found (others_parts names others) (otherwise_parts names otherwise) (others_checked others) (otherwise_checked otherwise) (others_checks others) (otherwise_checks otherwise)))
+        (found (row_names Tables row ++ (others_names Tables others ++ otherwise_names Tables otherwise))) (expr_none condition)
+        (two_found (row_parts names row) (others_parts names others ++ otherwise_parts names otherwise) (row_names Tables row) (others_names Tables others ++ otherwise_names Tables otherwise) (row_checks row)
+        (two_found (others_parts names others) (otherwise_parts names otherwise) (others_names Tables others) (otherwise_names Tables otherwise) (others_checks others) (otherwise_checks otherwise)))
 
-    others_checks : {m : _} (row : Row_of-ElseIf m) → checks_in (others_parts names row) ≡ found (others_checked row)
+    others_checks : {m : _} (row : Row_of-ElseIf m) → checks_in (others_parts names row) ≡ found (others_names Tables row)
     others_checks end_of-ElseIf = refl
     others_checks (more_of-ElseIf condition shape row block more) =
-        two_found (expr_parts names condition ++ row_parts names row) (others_parts names more) (row_checked row) (others_checked more)
-        (two (expr_parts names condition) (row_parts names row) [] (found (row_checked row)) (expr_none condition) (row_checks row)) (others_checks more)
+        two_found (expr_parts names condition ++ row_parts names row) (others_parts names more) (row_names Tables row) (others_names Tables more)
+        (two (expr_parts names condition) (row_parts names row) [] (found (row_names Tables row)) (expr_none condition) (row_checks row)) (others_checks more)
 
-    otherwise_checks : (x : Held-If-otherwise) → checks_in (otherwise_parts names x) ≡ found (otherwise_checked x)
+    otherwise_checks : (x : Held-If-otherwise) → checks_in (otherwise_parts names x) ≡ found (otherwise_names Tables x)
     otherwise_checks None' = refl
     otherwise_checks (Some' shape row block) = row_checks row
 
-    row_checks : {m : _} (row : Row_of-Stmt m) → checks_in (row_parts names row) ≡ found (row_checked row)
+    row_checks : {m : _} (row : Row_of-Stmt m) → checks_in (row_parts names row) ≡ found (row_names Tables row)
     row_checks end_of-Stmt = refl
-    row_checks (more_of-Stmt first row) = two_found (stmt_parts names first) (row_parts names row) (checked first) (row_checked row) (stmt_checks first) (row_checks row)
+    row_checks (more_of-Stmt first row) = two_found (stmt_parts names first) (row_parts names row) (picked_in Tables first) (row_names Tables row) (stmt_checks first) (row_checks row)
 
-  all_checks : (xs : List Stmt) → checks_in (flat_map (stmt_parts names) xs) ≡ found (flat_map checked xs)
+  all_checks : (xs : List Stmt) → checks_in (flat_map (stmt_parts names) xs) ≡ found (flat_map (picked_in Tables) xs)
   all_checks [] = refl
-  all_checks (x ∷ xs) = two_found (stmt_parts names x) (flat_map (stmt_parts names) xs) (checked x) (flat_map checked xs) (stmt_checks x) (all_checks xs)
+  all_checks (x ∷ xs) = two_found (stmt_parts names x) (flat_map (stmt_parts names) xs) (picked_in Tables x) (flat_map (picked_in Tables) xs) (stmt_checks x) (all_checks xs)
 
   abbrev block_in : Written → Block
   block_in w = w.block
 
-  body_checks : (o : Option Written) → checks_or_none (option_map (body_of names) o) ≡ found (block_checked (option_map block_in o))
+  body_checks : (o : Option Written) → checks_or_none (option_map (body_of names) o) ≡ found (block_names Tables (option_map block_in o))
   body_checks None = refl
   body_checks (Some w) = all_checks w.block.statements
 
@@ -281,12 +282,12 @@ needs_of_tries trees k transition table s row h is at =
     let one = one_numbering trees k s.tree s.machine h has in
     let kept : written_actions s.tree ≡ flat_map action_in s.tree.declarations = actions_written trees k s.tree h has.machine in
     let bodies : List Body = bodies_of names (written_actions s.tree) in
-    let each : (a : ℕ) → checks_or_none (slice_get (bodies_of names (written_actions s.tree)) a) ≡ filter_map (number_in names.tables) (block_checked (body_of_action s a)) = λ a.
+    let each : (a : ℕ) → checks_or_none (slice_get (bodies_of names (written_actions s.tree)) a) ≡ filter_map (number_in names.tables) (block_names Tables (body_of_action s a)) = λ a.
     ap (λ ws. checks_or_none (slice_get (bodies_of names ws) a)) kept
     ∙ ap checks_or_none (slice_get-map (body_of names) (flat_map action_in s.tree.declarations) a)
     ∙ body_checks names (slice_get (flat_map action_in s.tree.declarations) a)
-    ∙ ap (λ o. filter_map (number_in names.tables) (block_checked o)) (sym (bodies_are trees k s (symbols_are trees k s.tree s.machine has) a)) in
+    ∙ ap (λ o. filter_map (number_in names.tables) (block_names Tables o)) (sym (bodies_are trees k s (symbols_are trees k s.tree s.machine has) a)) in
     needs_by_symbols trees k s.tree s.machine h has transition table
     ∙ ap (need_of (bodies_of names (written_actions s.tree)) table) at
-    ∙ ap (count_by (λ j. j == table)) (each_found names (λ a. checks_or_none (slice_get (bodies_of names (written_actions s.tree)) a)) (λ a. block_checked (body_of_action s a)) each row.actions)
-    ∙ counted s.machine names.tables one.tables table (flat_map (λ a. block_checked (body_of_action s a)) row.actions)
+    ∙ ap (count_by (λ j. j == table)) (each_found names (λ a. checks_or_none (slice_get (bodies_of names (written_actions s.tree)) a)) (λ a. block_names Tables (body_of_action s a)) each row.actions)
+    ∙ counted s.machine names.tables one.tables table (flat_map (λ a. block_names Tables (body_of_action s a)) row.actions)

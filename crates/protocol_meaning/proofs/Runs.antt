@@ -9,7 +9,6 @@ use Rattle.ruby_value.specs.declared.asked.Ask.{Ask}
 use Rattle.ruby_value.specs.declared.asked.Ask.TheVariants.{Load, Store, Fetch}
 use Rattle.ruby_value.specs.declared.asked.Asked.{Asked}
 use Rattle.ruby_value.specs.declared.message.Delivery.{Delivery}
-use Rattle.ruby_value.specs.declared.message.Message.{Message}
 use Rattle.ruby_value.specs.declared.message.MsgNo.{MsgNo}
 use Rattle.ruby_value.specs.declared.setup.MachineSetup.{MachineSetup}
 use Rattle.ruby_value.specs.declared.setup.TableSetup.{TableSetup}
@@ -33,7 +32,9 @@ use Rattle.protocol_runs.proofs.Fitting as fitting_runs
 use Rattle.protocol_runs.proofs.Runs.{hold-along}
 use Rattle.slicc_ast.specs.declared.tree.item.Tree.{Tree}
 use Rattle.slicc_plan.specs.Prelude.{symbols_of}
-use Rattle.ctl_face.specs.Prelude.{DriverAct, Issues, Takes, after_driver_acts, at_cycle, with_arrival, with_one_fired, with_request, with_stop, with_wake_up, without_first_answer, Ctl, LocalView, incoming_message, initial_fields, opening_ctl, opening_table, scan_view, ParameterTable, Table}
+use Rattle.ctl_face.specs.declared.parcel.Parcel.{Parcel}
+use Rattle.ctl_face.specs.declared.parcel.Parcel.TheVariants as parcel
+use Rattle.ctl_face.specs.Prelude.{DriverAct, Issues, Takes, after_driver_acts, at_cycle, with_arrival, with_parcel_arrival, with_one_fired, with_request, with_stop, with_wake_up, without_first_answer, Ctl, LocalView, incoming_message, initial_fields, opening_ctl, opening_table, scan_view, ParameterTable, Table}
 use Rattle.ctl_face.proofs.Inboxes.{all-with}
 use Rattle.ctl_face.proofs.Lines.{All-found}
 use Rattle.body_meaning.specs.Prelude.{Reading, Scanned, scan}
@@ -48,7 +49,7 @@ use Rattle.protocol_runs.proofs.Ranges.{below-free, machine-is, machine-says}
 use Rattle.protocol_runs.proofs.Scans.{fitting, scan-is}
 use Rattle.protocol_meaning.specs.Prelude.{meaning_of, outcome_by, outcome_of, scan_by, scan_of, reading_with, AreWithin, Extent, IsMember, IsWithin, members_of, HoldsWithin, MessageWithin, TableWithin, AtMachine, ControllerWithin, EntryWithin, IsEnd, IsNote, IsStop, declared_extent}
 use Rattle.protocol_meaning.proofs.Scans.{is_meaning}
-use Rattle.protocol_meaning.proofs.Bounds.{Bounds, CopyWithin, ViewWithin}
+use Rattle.protocol_meaning.proofs.Bounds.{Bounds, CopyWithin, ParcelWithin, ViewWithin}
 use Rattle.protocol_meaning.proofs.Reading.{bounds_of}
 use Rattle.protocol_meaning.proofs.Scan.{EndWithin, NoteWithin, ScanWithin, StopWithin}
 use Rattle.protocol_meaning.proofs.OfMachine.{MachineWithin}
@@ -91,13 +92,14 @@ module _ (b : Bounds) where
   driven (Takes ∷ acts) x is = driven acts (without_first_answer x) (other_mail x (without_first_answer x) refl refl is.holds.inbox is)
   driven (Issues asked ∷ acts) x is = driven acts (with_request x asked) (other_mail x (with_request x asked) refl refl is.holds.inbox is)
 
-  arrived : (x : Ctl) (m : Message) → AreWithin b.extent m.fields → CtlWithin b x → CtlWithin b (with_arrival x m)
-  arrived x m here is = other_mail x (with_arrival x m) refl refl (all-with (MessageWithin b.extent) x.mail.inbox (incoming_message m) is.holds.inbox here) is
+  arrived : (x : Ctl) (p : Parcel) → ParcelWithin b.extent p → CtlWithin b x → CtlWithin b (with_parcel_arrival x p)
+  arrived x (parcel.Message m) here is = other_mail x (with_arrival x m) refl refl (all-with (MessageWithin b.extent) x.mail.inbox (incoming_message m) is.holds.inbox here) is
+  arrived x (parcel.Credit c) here is = other_mail x (with_parcel_arrival x (parcel.Credit c)) refl refl is.holds.inbox is
 
 -- What a scan answers, as runs have it.
 
 module _ (b : Bounds) (m : MachineSymbols) where
-  abbrev OutcomeWithin : Outcome Ctl Message → Type 0
+  abbrev OutcomeWithin : Outcome Ctl Parcel → Type 0
   OutcomeWithin (Fired note acts copies after) = NoteWithin b.extent m note × All (CopyWithin b) copies × CtlWithin b after
   OutcomeWithin (Idle after) = CtlWithin b after
   OutcomeWithin Full = Unit {0}
@@ -118,7 +120,7 @@ module _ (b : Bounds) (m : MachineSymbols) where
 module _ {D : Type 0} (trees : List Tree) (drive : D → List Seat → ℕ → Drive D) (needs : D → ℕ → ℕ) (least : D → ℕ) (s : Setting D)
     (driver : IsDriver drive needs least) (is : IsSetting least s)
     (each : (k : ℕ) (setup : MachineSetup) → slice_get s.machines k ≡ Some setup → MachineWithin trees is.routes.total k setup) where
-  abbrev R : Rules Ctl Message D
+  abbrev R : Rules Ctl Parcel D
   R = rules (meaning_of trees) drive s
 
   abbrev E : Extent
@@ -179,10 +181,10 @@ module _ {D : Type 0} (trees : List Tree) (drive : D → List Seat → ℕ → D
     outcome_within c now x found within =
         let one : IsOne s c setup = record { machine = k; found = found; there = there } in
         let below = below-free 0 is.routes.total s.ranges k c is.routes.numbers.numbered (machine-says s.ranges c k found) in
-        subst (λ (q : Scan Ctl Message). OutcomeWithin bounds of.m q.outcome) (sym (scan-is (meaning_of trees) drive least s is c x now setup one))
+        subst (λ (q : Scan Ctl Parcel). OutcomeWithin bounds of.m q.outcome) (sym (scan-is (meaning_of trees) drive least s is c x now setup one))
         (scanned (scan_view setup (actor_of s c) now x) (view_within c now x below within))
 
-  -- What always holds, of a controller and of a message.
+  -- What always holds, of a controller and of a parcel.
 
   abbrev Within : ℕ → Ctl → Type 0
   Within c x = (k : ℕ) (setup : MachineSetup) (there : Is-there k setup) → machine_of s.ranges c ≡ Some k → CtlWithin (bounds k setup there) x
@@ -190,8 +192,8 @@ module _ {D : Type 0} (trees : List Tree) (drive : D → List Seat → ℕ → D
   abbrev Fits : ℕ → Ctl → ℕ → Type 0
   Fits c x now = FitsRun s c x now × Within c x
 
-  abbrev Suits : ℕ → Message → ℕ → Type 0
-  Suits c m now = SuitsReceiver s c m now × AreWithin E m.fields
+  abbrev Suits : ℕ → Parcel → ℕ → Type 0
+  Suits c p now = SuitsReceiver s c p now × ParcelWithin E p
 
   abbrev Leads : D → ℕ → ℕ → Type 0
   Leads = HasSeats s least
@@ -227,7 +229,7 @@ module _ {D : Type 0} (trees : List Tree) (drive : D → List Seat → ℕ → D
 
   -- the scan in any machine that the controller is of
   outcome_in : (c now : ℕ) (x : Ctl) → Within c x → (k : ℕ) (setup : MachineSetup) (there : Is-there k setup) → machine_of s.ranges c ≡ Some k
-      → (o : Outcome Ctl Message) → (R.scan c x now).outcome ≡ o → OutcomeWithin (bounds k setup there) (of k setup there).m o
+      → (o : Outcome Ctl Parcel) → (R.scan c x now).outcome ≡ o → OutcomeWithin (bounds k setup there) (of k setup there).m o
   outcome_in c now x within k setup there found o same =
       subst (OutcomeWithin (bounds k setup there) (of k setup there).m) same (outcome_within k setup there c now x found (within k setup there found))
 
@@ -242,7 +244,7 @@ module _ {D : Type 0} (trees : List Tree) (drive : D → List Seat → ℕ → D
       let one : here.setup ≡ setup = cc setups in
       subst (CtlWithin (bounds k setup there)) (sym (here.is ∙ ap opening_ctl one)) (opened_within k setup there)
 
-  fires_both : (c now : ℕ) (x : Ctl) → Fits c x now → (note : FireNote) (acts : Acts) (copies : List (Delivery Message)) (after : Ctl) → (R.scan c x now).outcome ≡ Fired note acts copies after
+  fires_both : (c now : ℕ) (x : Ctl) → Fits c x now → (note : FireNote) (acts : Acts) (copies : List (Delivery Parcel)) (after : Ctl) → (R.scan c x now).outcome ≡ Fired note acts copies after
       → Keeps c now x (with_one_fired after) × runs.AllSuit R Fits Suits Leads now copies
   fires_both c now x fits note acts copies after fired =
       let keeps = first.fires c now x fits.0 note acts copies after fired in
@@ -272,13 +274,13 @@ module _ {D : Type 0} (trees : List Tree) (drive : D → List Seat → ℕ → D
       (All-cons (IsWithin E) (value.Enum 2 (member_of asked.kind)) size (type_within asked.kind)
       (All-cons (IsWithin E) (value.Int (pos asked.size)) [] tt (All-nil (IsWithin E)))))
 
-  abbrev Delivery-within : Delivery Message → Type 0
-  Delivery-within d = AreWithin E d.message.fields
+  abbrev Delivery-within : Delivery Parcel → Type 0
+  Delivery-within d = ParcelWithin E d.message
 
   request_within : (now : ℕ) (o : Option SeatSetup) (number : MsgNo) (asked : Asked) → All Delivery-within (request_at o number now asked)
   request_within now None number asked = All-nil Delivery-within
   request_within now (Some x) number asked =
-      All-cons Delivery-within (record { receiver = x.controller; message = request_message number x.queue now asked }) [] (asked_within asked) (All-nil Delivery-within)
+      All-cons Delivery-within (record { receiver = x.controller; message = parcel.Message (request_message number x.queue now asked) }) [] (asked_within asked) (All-nil Delivery-within)
 
   requests_within : (own : ℕ) (seats : List SeatSetup) (count now : ℕ) (xs : List Issued) → All Delivery-within (request_messages seats own count now xs)
   requests_within own seats count now [] = All-nil Delivery-within
@@ -306,7 +308,7 @@ module _ {D : Type 0} (trees : List Tree) (drive : D → List Seat → ℕ → D
         both c now x (with_stop x) (first.stops c now x fits.0 at stop)
         (λ k setup there found. let here = fits.1 k setup there found in other_mail (bounds k setup there) x (with_stop x) refl refl here.holds.inbox here);
     arrives = λ c now x m fits suits.
-        both c now x (with_arrival x m) (first.arrives c now x m fits.0 suits.0)
+        both c now x (with_parcel_arrival x m) (first.arrives c now x m fits.0 suits.0)
         (λ k setup there found. arrived (bounds k setup there) x m suits.1 (fits.1 k setup there found));
     begins = λ c now next x fits later within. (
       first.begins c now next x fits.0 later within,
@@ -377,7 +379,7 @@ module _ {D : Type 0} (trees : List Tree) (drive : D → List Seat → ℕ → D
       at_machine (λ m. IsEnd trees s.ranges is.routes.total m (end.Stop at)) c known.k this.m known.found this.symbols
       (stop_of known.k known.setup this at (outcome_in c now x fits.1 known.k known.setup known.there known.found (Stop at) same))
 
-  moved_entry : (now c : ℕ) (p : Place Ctl) (e : Event) (m : Moved Ctl Message) → Fits c p.controller now → Move R now c p e m → All Entry-within (option_to_list m.entry)
+  moved_entry : (now c : ℕ) (p : Place Ctl) (e : Event) (m : Moved Ctl Parcel) → Fits c p.controller now → Move R now c p e m → All Entry-within (option_to_list m.entry)
   moved_entry now c p e m fits (Taken worker free) = All-nil Entry-within
   moved_entry now c p e m fits (FiredBy worker note acts copies after holds same) =
       let known = known_scan c now p.controller fits in let this = of known.k known.setup known.there in

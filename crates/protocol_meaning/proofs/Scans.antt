@@ -4,7 +4,6 @@ use Rattle.std.specs.List.{list_any}
 use Rattle.std.specs.Option.{option_and_then, option_map}
 use Rattle.ruby_value.proofs.Contained.{Contains-cons_cases, Contains-cons_here, Contains-cons_there}
 use Rattle.ruby_value.specs.declared.message.Delivery.{Delivery}
-use Rattle.ruby_value.specs.declared.message.Message.{Message}
 use Rattle.ruby_symbols.specs.declared.machine.MachineSymbols.{MachineSymbols}
 use Rattle.ruby_symbols.specs.declared.machine.PortSymbol.{PortSymbol}
 use Rattle.ruby_symbols.specs.declared.machine.TransitionSymbol.{TransitionSymbol}
@@ -15,6 +14,7 @@ use Rattle.protocol_runs.specs.Prelude.{invalid_at, Acts, Fired, Full, Idle, Out
 use Rattle.slicc_ast.specs.declared.tree.item.Tree.{Tree}
 use Rattle.slicc_ast.specs.declared.tree.machine.Machine.{Machine}
 use Rattle.slicc_plan.specs.Prelude.{machines_of, symbols_of}
+use Rattle.ctl_face.specs.declared.parcel.Parcel.{Parcel}
 use Rattle.ctl_face.specs.Prelude.{Ctl, LocalView, scan_view}
 use Rattle.acts.specs.Prelude.{Done, IsLeft}
 use Rattle.body_meaning.specs.declared.frame.Flow.{Flow}
@@ -100,13 +100,13 @@ pair_told (p ∷ ps) t has =
 
 -- What a scan answers.
 
-abbrev Told : Option Reading → LocalView → ℕ → Scan Ctl Message
+abbrev Told : Option Reading → LocalView → ℕ → Scan Ctl Parcel
 Told o v limit = record {
   outcome = outcome_of (scan_by o limit v.ctl.fired v);
   tried = map tried_pair (lookups_by o limit v.ctl.fired v);
 }
 
-nothing_tried : (has_row : ℕ → ℕ → Bool) (o : Outcome Ctl Message) (t : RunTried) → IsRefusedTry has_row (record { outcome = o; tried = [] }) t → ⊥
+nothing_tried : (has_row : ℕ → ℕ → Bool) (o : Outcome Ctl Parcel) (t : RunTried) → IsRefusedTry has_row (record { outcome = o; tried = [] }) t → ⊥
 nothing_tried has_row o t refused = omega (arith, refused.tried.1)
 
 full_is_scan : (v : LocalView) (limit : ℕ) (has_row : ℕ → ℕ → Bool) → IsScanOf v limit has_row (record { outcome = Full; tried = [] })
@@ -118,8 +118,8 @@ full_is_scan v limit has_row = record {
 }
 
 -- what is known of an outcome that is no stop
-record Answers (v : LocalView) (limit : ℕ) (o : Outcome Ctl Message) : Type 0 where
-  fired : (note : FireNote) (acts : Acts) (copies : List (Delivery Message)) (after : Ctl) → o ≡ Fired note acts copies after → IsFired v limit acts copies after
+record Answers (v : LocalView) (limit : ℕ) (o : Outcome Ctl Parcel) : Type 0 where
+  fired : (note : FireNote) (acts : Acts) (copies : List (Delivery Parcel)) (after : Ctl) → o ≡ Fired note acts copies after → IsFired v limit acts copies after
   rests : (after : Ctl) → o ≡ Idle after → Rests v after
   goes : (at : StopAt) → o ≡ Stop at → ⊥
 
@@ -179,7 +179,7 @@ module _ (s : Reading) (v : LocalView) (limit : ℕ) (few : v.ctl.fired < limit)
         comes = λ t refused. absurd (cc (refused_stops (Ok d) t ran refused.tried refused.no_row));
       }
 
-  caused_by : (at : StopAt) → Cause (has_row s) pairs at → (o : Outcome Ctl Message)
+  caused_by : (at : StopAt) → Cause (has_row s) pairs at → (o : Outcome Ctl Parcel)
       → (t : RunTried) × (at ≡ invalid_at t) × IsRefusedTry (has_row s) (record { outcome = o; tried = map tried_pair pairs }) t
   caused_by at c o = (tried_pair c.pair, c.at_is, record { tried = told_pair pairs c.pair c.among; no_row = c.no_row })
 

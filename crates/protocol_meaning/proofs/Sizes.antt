@@ -14,7 +14,7 @@ use Rattle.ruby_symbols.specs.declared.machine.TableSymbol.{TableSymbol}
 use Rattle.ruby_symbols.specs.declared.symbols.Symbols.{Symbols}
 use Rattle.ruby_symbols.specs.declared.types.FieldSymbol.{FieldSymbol}
 use Rattle.ruby_topology.specs.declared.forms.Statement.{Statement}
-use Rattle.ruby_topology.specs.declared.forms.Statement.TheVariants.{Machine, Network, Link, Jitter, Ordered, Cache, Tbes, Set}
+use Rattle.ruby_topology.specs.declared.forms.Statement.TheVariants.{Machine, Network, Link, Jitter, Ordered, Cache, Tbes, Size, Set}
 use Rattle.ruby_topology.specs.Prelude.{sort_at, cache_of, sizes_of, tbes_of}
 use Rattle.ruby_topology.specs.Topology.{value_of}
 use Rattle.slicc_ast.specs.declared.tree.item.Tree.{Tree}
@@ -61,6 +61,7 @@ module _ (symbols : Symbols) (machine : ℕ) (m : MachineSymbols) (at : slice_ge
   cache_sized (Jitter n) c sound e = absurd (cc e)
   cache_sized (Ordered n) c sound e = absurd (cc e)
   cache_sized (Tbes n table entries) c sound e = absurd (cc e)
+  cache_sized (Size n buffer slots) c sound e = absurd (cc e)
   cache_sized (Set n value number) c sound e = absurd (cc e)
 
   tbes_sized : (s : Statement) (t : ℕ × ℕ) → IsSound symbols s → tbes_of machine s ≡ Some t → IsTbesSize m t
@@ -82,6 +83,7 @@ module _ (symbols : Symbols) (machine : ℕ) (m : MachineSymbols) (at : slice_ge
   tbes_sized (Jitter n) t sound e = absurd (cc e)
   tbes_sized (Ordered n) t sound e = absurd (cc e)
   tbes_sized (Cache n table sets ways) t sound e = absurd (cc e)
+  tbes_sized (Size n buffer slots) t sound e = absurd (cc e)
   tbes_sized (Set n value number) t sound e = absurd (cc e)
 
   number_sized : (s : Statement) (v : ℕ × ℤ) → IsSound symbols s → value_of machine s ≡ Some v → IsNumberOf m v
@@ -103,6 +105,7 @@ module _ (symbols : Symbols) (machine : ℕ) (m : MachineSymbols) (at : slice_ge
   number_sized (Ordered n) v sound e = absurd (cc e)
   number_sized (Cache n table sets ways) v sound e = absurd (cc e)
   number_sized (Tbes n table entries) v sound e = absurd (cc e)
+  number_sized (Size n buffer slots) v sound e = absurd (cc e)
 
 -- What two lines set.
 
@@ -122,6 +125,7 @@ module _ (machine : ℕ) where
   caches_apart a (Link one other k) x y new e f = absurd (cc f)
   caches_apart a (Jitter k) x y new e f = absurd (cc f)
   caches_apart a (Ordered k) x y new e f = absurd (cc f)
+  caches_apart a (Size k buffer slots) x y new e f = absurd (cc f)
   caches_apart a (Tbes k table entries) x y new e f = absurd (cc f)
   caches_apart a (Set k value number) x y new e f = absurd (cc f)
   caches_apart (Machine n count) b x y new e f = absurd (cc e)
@@ -129,6 +133,7 @@ module _ (machine : ℕ) where
   caches_apart (Link one other n) b x y new e f = absurd (cc e)
   caches_apart (Jitter n) b x y new e f = absurd (cc e)
   caches_apart (Ordered n) b x y new e f = absurd (cc e)
+  caches_apart (Size n buffer slots) b x y new e f = absurd (cc e)
   caches_apart (Tbes n table entries) b x y new e f = absurd (cc e)
   caches_apart (Set n value number) b x y new e f = absurd (cc e)
 
@@ -143,6 +148,7 @@ module _ (machine : ℕ) where
   tbes_apart a (Link one other k) x y new e f = absurd (cc f)
   tbes_apart a (Jitter k) x y new e f = absurd (cc f)
   tbes_apart a (Ordered k) x y new e f = absurd (cc f)
+  tbes_apart a (Size k buffer slots) x y new e f = absurd (cc f)
   tbes_apart a (Cache k table sets ways) x y new e f = absurd (cc f)
   tbes_apart a (Set k value number) x y new e f = absurd (cc f)
   tbes_apart (Machine n count) b x y new e f = absurd (cc e)
@@ -150,6 +156,7 @@ module _ (machine : ℕ) where
   tbes_apart (Link one other n) b x y new e f = absurd (cc e)
   tbes_apart (Jitter n) b x y new e f = absurd (cc e)
   tbes_apart (Ordered n) b x y new e f = absurd (cc e)
+  tbes_apart (Size n buffer slots) b x y new e f = absurd (cc e)
   tbes_apart (Cache n table sets ways) b x y new e f = absurd (cc e)
   tbes_apart (Set n value number) b x y new e f = absurd (cc e)
 
@@ -164,6 +171,7 @@ module _ (machine : ℕ) where
   numbers_apart a (Link one other k) x y new e f = absurd (cc f)
   numbers_apart a (Jitter k) x y new e f = absurd (cc f)
   numbers_apart a (Ordered k) x y new e f = absurd (cc f)
+  numbers_apart a (Size k buffer slots) x y new e f = absurd (cc f)
   numbers_apart a (Cache k table sets ways) x y new e f = absurd (cc f)
   numbers_apart a (Tbes k table entries) x y new e f = absurd (cc f)
   numbers_apart (Machine n count) b x y new e f = absurd (cc e)
@@ -171,6 +179,7 @@ module _ (machine : ℕ) where
   numbers_apart (Link one other n) b x y new e f = absurd (cc e)
   numbers_apart (Jitter n) b x y new e f = absurd (cc e)
   numbers_apart (Ordered n) b x y new e f = absurd (cc e)
+  numbers_apart (Size n buffer slots) b x y new e f = absurd (cc e)
   numbers_apart (Cache n table sets ways) b x y new e f = absurd (cc e)
   numbers_apart (Tbes n table entries) b x y new e f = absurd (cc e)
 

@@ -186,11 +186,12 @@ module _ (s : Reading) (controllers : ℕ) (kept : List Value) (is : ReadingWith
     enqueued_stays : (port : List ℕ) (written : Option Expr) (block : Frame → Acting Ended) → Block-stays block → Block-stays (enqueued s calls port written block)
     unfolding enqueued
     enqueued_stays port written block stays frame within =
-        then_stays Bs {R = λ _. Unit {0}} (found_stays Bs _ (port_named s.machine port) (any (port_named s.machine port)))
+        then_stays Bs {R = λ _. Unit {0}} (found_stays Bs _ frame.about (any frame.about))
+        (λ about _. then_stays Bs {R = λ _. Unit {0}} (found_stays Bs _ (port_named s.machine port) (any (port_named s.machine port)))
         (λ buffer _. then_stays Bs {R = λ _. Unit {0}} (found_stays Bs _ (message_of s.machine buffer) (any (message_of s.machine buffer)))
         (λ structure _. then_stays Bs (found_stays Bs _ (new_message s structure) (new_within structure))
         (λ t here. then_stays Bs (stays (bind (codes "out_msg") t frame) (bind_within (codes "out_msg") t frame here within))
-        (λ x at. sent_stays buffer written (length frame.names) x.flow x.frame at.flow at.frame))))
+        (λ x at. sent_stays buffer written (length frame.names) x.flow x.frame at.flow at.frame)))))
 
     stalled_stays : (port : List ℕ) (address : Expr) → Block-stays (stalled s calls port address)
     unfolding stalled

@@ -1,4 +1,4 @@
--- A scan with messages and marks added to the local that it leaves.
+-- A scan with messages, credits and marks added to the local that it leaves.
 use Rattle.acts.specs.Prelude.{Added, with_added}
 use Rattle.body_meaning.specs.Prelude.{Scanned}
 

@@ -4,9 +4,9 @@
 use Rattle.std.specs.Prelude.{ℕ, Bool, false, Option, None, Some, List, [], map, slice_get}
 use Rattle.std.specs.List.{list_any}
 use Rattle.slicc_ast.specs.declared.tree.item.Tree.{Tree}
-use Rattle.ruby_value.specs.declared.message.Message.{Message}
 use Rattle.ruby_symbols.specs.declared.machine.MachineSymbols.{MachineSymbols}
 use Rattle.protocol_runs.specs.Prelude.{Fired, Full, Idle, Outcome, Scan, Stop, Tried, Meaning, acts_told}
+use Rattle.ctl_face.specs.declared.parcel.Parcel.{Parcel}
 use Rattle.ctl_face.specs.Prelude.{Ctl, LocalView}
 use Rattle.body_meaning.specs.Prelude.{Reading, Scanned, by_try, pairs_tried, scan, is_for, Pair}
 use Rattle.slicc_plan.specs.Prelude.{symbols_of}
@@ -33,13 +33,13 @@ lookups_of trees machine limit fired_before v = lookups_by (reading_of trees mac
 
 -- The same, as runs have it: with what was done to messages, where a transition has fired.
 
-abbrev pub outcome_by : RoundEnd → LocalView → Outcome Ctl Message
+abbrev pub outcome_by : RoundEnd → LocalView → Outcome Ctl Parcel
 outcome_by (round.Fired note) w = Fired note (acts_told w.acts) w.acts.posted w.ctl
 outcome_by round.Idle w = Idle w.ctl
 outcome_by round.Full w = Full
 outcome_by (round.Stop at) w = Stop at
 
-abbrev pub outcome_of : Scanned → Outcome Ctl Message
+abbrev pub outcome_of : Scanned → Outcome Ctl Parcel
 outcome_of s = outcome_by s.end s.view
 
 abbrev pub tried_pair : Pair → Tried
@@ -49,7 +49,7 @@ abbrev pub has_row_in : Option MachineSymbols → (state event : ℕ) → Bool
 has_row_in None state event = false
 has_row_in (Some m) state event = list_any (is_for state event) m.transitions
 
-abbrev pub run_scan_of : List Tree → (machine : ℕ) → LocalView → (limit : ℕ) → Scan Ctl Message
+abbrev pub run_scan_of : List Tree → (machine : ℕ) → LocalView → (limit : ℕ) → Scan Ctl Parcel
 run_scan_of trees machine v limit = record {
   outcome = outcome_of (scan_of trees machine limit v.ctl.fired v);
   tried = map tried_pair (lookups_of trees machine limit v.ctl.fired v);

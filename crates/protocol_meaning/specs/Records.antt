@@ -2,9 +2,9 @@
 -- its options, from this driver as the run began; the run has ended; and all else in the record is that run's. It has one tally for
 -- each worker, and one thread is worker 0 alone.
 use Rattle.std.specs.Prelude.{◌≡◌, ℕ, Some, List, [], ◌∷◌}
-use Rattle.ruby_value.specs.declared.message.Message.{Message}
 use Rattle.run_journal.specs.Prelude.{AreFinals, tally}
 use Rattle.protocol_runs.specs.Prelude.{account, Rules, HasEnded, IsRun, World, rules, Setting}
+use Rattle.ctl_face.specs.declared.parcel.Parcel.{Parcel}
 use Rattle.ctl_face.specs.Prelude.{Ctl}
 use Rattle.protocol_meaning.specs.Meaning.{meaning_of}
 use Rattle.protocol_meaning.specs.Setting.{setting_of}
@@ -15,7 +15,7 @@ module _ {D : Type 0} (drive : D → List Seat → ℕ → Drive D) (driver : D)
   abbrev pub setting_in : Setting D
   setting_in = setting_of r.plan r.topology r.options.seed r.options.cycles r.options.limit driver
 
-  abbrev pub rules_in : Rules Ctl Message D
+  abbrev pub rules_in : Rules Ctl Parcel D
   rules_in = rules (meaning_of r.plan) drive setting_in
 
   pub record IsRecordOf (w : World Ctl D) : Type 0 where

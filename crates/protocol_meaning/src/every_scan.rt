@@ -2,14 +2,14 @@
 ghost use Rattle.std.specs.Prelude.{◌≡◌, ℕ, List};
 ghost use Rattle.std.specs.List.{All};
 ghost use Rattle.ruby_value.specs.declared.setup.MachineSetup.{MachineSetup};
-ghost use Rattle.ctl_face.specs.Prelude.{IsLawful, FitsReceiver, IsInRun, LocalView, SameScan};
+ghost use Rattle.ctl_face.specs.Prelude.{IsLawful, FitsReceiver, IsInRun, messages_among, LocalView, SameScan};
 ghost use Rattle.acts.specs.Prelude.{Added, AreNew, with_added, CountsStay, IsMarked, MarksStay, IsLeft, HasMailed};
 ghost use Rattle.body_meaning.specs.Prelude.{Reading, pairs_tried, scan};
 ghost use Rattle.protocol_meaning.specs.Prelude.{scanned_with};
 
 /// However a scan ends, it leaves a local that acts leave of the one in which it began. So it stays lawful and in the same scan, counts
-/// no transition and doesn't stop the controller; no mark is taken away or set for this cycle, and no message that is to come is
-/// forgotten; what was in the inbox and what was sent is consumed, posted or in the inbox; and in a run the posted copies fit their
+/// no transition and doesn't stop the controller; no mark is taken away or set for this cycle, and no message or credit that is to come
+/// is forgotten; what was in the inbox and what was sent is consumed, posted or in the inbox; and in a run the posted copies fit their
 /// receivers.
 pub fn scans_keep_what_holds()
     ensures left { (s : Reading) (limit fired : ℕ) (v : LocalView) → IsLeft v (scan s limit fired v).view }
@@ -25,10 +25,11 @@ pub fn scans_keep_what_holds()
     ensures receivers { (s : Reading) (limit fired : ℕ) (machines : List MachineSetup)
         (ranges : List (ℕ × ℕ)) (v : LocalView)
         → IsInRun machines ranges v
-        → All (FitsReceiver machines ranges) (scan s limit fired v).view.acts.posted }
+        → All (FitsReceiver machines ranges)
+        (messages_among (scan s limit fired v).view.acts.posted) }
 {}
 
-/// Messages and marks that come to a controller, and are for later cycles, change what a scan does by their addition alone: it ends in
+/// Messages, credits and marks that come to a controller, and are for later cycles, change what a scan does by their addition alone: it ends in
 /// the same way, and tries the same pairs.
 pub fn what_comes_later_changes_no_scan()
     ensures scan { (s : Reading) (limit fired : ℕ) (v : LocalView) (more : Added)

@@ -4,23 +4,23 @@ use Rattle.std.proofs.lemmas.Bool.{cond_both, leb-false}
 use Rattle.ruby_value.specs.declared.fault.Fault.{Fault}
 use Rattle.ruby_value.specs.declared.fault.Fault.TheVariants.{Invalid}
 use Rattle.ruby_value.specs.declared.message.Delivery.{Delivery}
-use Rattle.ruby_value.specs.declared.message.Message.{Message}
 use Rattle.run_journal.specs.declared.entry.FireNote.{FireNote}
 use Rattle.run_journal.specs.declared.entry.StopAt.{StopAt}
 use Rattle.protocol_runs.specs.Prelude.{Acts, Fired, Full, Idle, Outcome, Stop, Tried, IsFired, IsMeaning, Rests, outcome_of, sample, taking}
+use Rattle.ctl_face.specs.declared.parcel.Parcel.{Parcel}
 use Rattle.ctl_face.specs.Prelude.{Ctl, LocalView, scan_view}
 use Rattle.acts.specs.Prelude.{run, Done}
 use Rattle.acts.proofs.Instances.{never_as_invalid}
 use Rattle.acts.proofs.Left.{left_by}
 
 -- what is known of an outcome, by which one it is
-record Answers (v : LocalView) (limit : ℕ) (o : Outcome Ctl Message) : Type 0 where
-  fires : (note : FireNote) (acts : Acts) (copies : List (Delivery Message)) (after : Ctl) → o ≡ Fired note acts copies after → IsFired v limit acts copies after
+record Answers (v : LocalView) (limit : ℕ) (o : Outcome Ctl Parcel) : Type 0 where
+  fires : (note : FireNote) (acts : Acts) (copies : List (Delivery Parcel)) (after : Ctl) → o ≡ Fired note acts copies after → IsFired v limit acts copies after
   idles : (after : Ctl) → o ≡ Idle after → Rests v after
   valid : (at : StopAt) → o ≡ Stop at → at.fault ≡ Invalid → ⊥
 
 -- the fault of an outcome, if it is a stop
-abbrev fault-in : Fault → Outcome Ctl Message → Fault
+abbrev fault-in : Fault → Outcome Ctl Parcel → Fault
 fault-in f Full = f
 fault-in f (Fired note acts copies after) = f
 fault-in f (Stop at) = at.fault
@@ -51,7 +51,7 @@ body-answers v limit (Err f) few ran = record {
   fires = λ note acts copies after is. absurd (cc is);
   idles = λ after is. absurd (cc is);
   valid = λ at is invalid.
-      let same : f ≡ at.fault = ap (λ (o : Outcome Ctl Message). fault-in f o) is in
+      let same : f ≡ at.fault = ap (λ (o : Outcome Ctl Parcel). fault-in f o) is in
       never_as_invalid taking v (ran ∙ ap (λ (g : Fault). Err g) (same ∙ invalid));
 }
 

@@ -11,7 +11,6 @@ use Rattle.std.specs.Option.{option_and_then, option_map}
 use Rattle.ruby_value.specs.declared.asked.Asked.{Asked}
 use Rattle.ruby_value.specs.declared.kind.Kind.{Kind}
 use Rattle.ruby_value.specs.declared.message.Delivery.{Delivery}
-use Rattle.ruby_value.specs.declared.message.Message.{Message}
 use Rattle.ruby_value.specs.declared.message.MsgNo.{MsgNo}
 use Rattle.ruby_value.specs.declared.setup.BufferSetup.{BufferSetup}
 use Rattle.ruby_value.specs.declared.setup.MachineSetup.{MachineSetup}
@@ -19,8 +18,10 @@ use Rattle.ruby_value.specs.Prelude.{has_kinds, numbers_from, FitsRequests, IsRe
 use Rattle.ruby_value.proofs.Ordered.{AllPairs-head, AllPairs-nil, AllPairs-tail}
 use Rattle.protocol_runs.specs.Premises as runs
 use Rattle.protocol_runs.specs.Prelude.{Rules, delivery_numbers, AreApart, HasQueue, IsSetting, TakesRequests, FitsRun, HasSeats, SuitsReceiver, setup_of, Meaning, request_at, request_fields, request_kinds, request_message, request_messages, rules, SeatSetup, Setting, acts_at, is_seat_of, issued_at, seat_in, seats_in, served, taken_at}
+use Rattle.ctl_face.specs.declared.parcel.Parcel.{Parcel}
+use Rattle.ctl_face.specs.declared.parcel.Parcel.TheVariants as parcel
 use Rattle.ctl_face.specs.Prelude.{DriverAct, IsDriverAct, Issues, Takes, after_driver_act, after_driver_acts, Ctl, Mail, FitsSequencer, TakesFields}
-use Rattle.acts.specs.Prelude.{AreMarked}
+use Rattle.acts.specs.Prelude.{AreCreditsMarked, AreMarked}
 use Rattle.ctl_face.proofs.Betweens.{driver_keeps, driver_mail}
 use Rattle.sequencer.specs.declared.issued.Issued.{Issued}
 use Rattle.sequencer.specs.Prelude.{CanIssue, Drive, IsLawful, Taken, after_taking, seats_after_taking, FitSeats, FitsSeat, Seat, Seating, changed_at, changed_seat, with_issued, with_seat, without_answer_at}
@@ -97,7 +98,7 @@ driver-fired (Issues asked ∷ acts) x = driver-fired acts (after_driver_act x (
 
 -- the controllers of a run at the seats of its driver
 module _ {D : Type 0} (p : Meaning) (drive : D → List Seat → ℕ → Drive D) (least : D → ℕ) (s : Setting D) (is : IsSetting least s) where
-  abbrev R : Rules Ctl Message D
+  abbrev R : Rules Ctl Parcel D
   R = rules p drive s
 
   requests-fit : (c now : ℕ) (x : Ctl) → FitsRun s c x now → IfSome x.sequencer FitsRequests
@@ -144,17 +145,18 @@ module _ {D : Type 0} (p : Meaning) (drive : D → List Seat → ℕ → Drive D
         fits-run p drive least s is c (served s.seats c turn x) now fit.setup fit.one
         (driver_keeps (acts_at s.seats c turn) (driver-acts s.seats c (length s.seats) turn issued-known) fit.setup c now x fit.fits)
         (subst (λ (mail : Mail). AreMarked now mail.marks mail.inbox) (sym (driver_mail (acts_at s.seats c turn) x)) fit.marked)
+        (subst (λ (mail : Mail). AreCreditsMarked now mail.marks mail.credits) (sym (driver_mail (acts_at s.seats c turn) x)) fit.credits_marked)
         (let same = driver-fired (acts_at s.seats c turn) x in omega (arith, same, fit.few)) fit.bound
 
   -- the messages of requests
   abbrev pub driver_number : ℕ
   driver_number = length R.controllers
 
-  abbrev SuitsAt : ℕ → Delivery Message → Type 0
+  abbrev SuitsAt : ℕ → Delivery Parcel → Type 0
   SuitsAt now e = SuitsReceiver s e.receiver e.message now
 
   -- what is known of each of them
-  pub record IsRequestFor (now : ℕ) (e : Delivery Message) : Type 0 where
+  pub record IsRequestFor (now : ℕ) (e : Delivery Parcel) : Type 0 where
     pub suits : SuitsReceiver s e.receiver e.message now
     pub receiver : e.receiver < driver_number
 
@@ -165,7 +167,7 @@ module _ {D : Type 0} (p : Meaning) (drive : D → List Seat → ℕ → Drive D
       (ap (λ (kinds : List Kind). has_kinds kinds (request_fields a)) takes.kinds ∙ request-kinds a)
 
   request-for : (now count : ℕ) (st : SeatSetup) (a : Asked) → IsSomeAnd (setup_of s st.controller) (HasQueue st.queue)
-      → IsRequestFor now (record { receiver = st.controller; message = request_message (record { sender = driver_number; count = count }) st.queue now a })
+      → IsRequestFor now (record { receiver = st.controller; message = parcel.Message (request_message (record { sender = driver_number; count = count }) st.queue now a) })
   request-for now count st a has =
       let (m, there, queue) = and-some (HasQueue st.queue) (setup_of s st.controller) has in
       let one = one-of s st.controller m there in
@@ -192,7 +194,7 @@ module _ {D : Type 0} (p : Meaning) (drive : D → List Seat → ℕ → Drive D
           All-cons (IsRequestFor now) _ [] (request-for now count st i.asked (at-place (λ (x : SeatSetup). IsSomeAnd (setup_of s x.controller) (HasQueue x.queue)) s.seats i.seat st there is.queues))
           (All-nil (IsRequestFor now))
 
-  abbrev numbers : List (Delivery Message) → List MsgNo
+  abbrev numbers : List (Delivery Parcel) → List MsgNo
   numbers es = delivery_numbers R es
 
   -- their numbers are the driver's next ones

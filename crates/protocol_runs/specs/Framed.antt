@@ -1,6 +1,6 @@
 -- What comes later changes a scan by its addition alone. Messages that come to a controller, each to be seen in a later cycle, of another
--- actor and with a number that isn't in the inbox, leave what a scan of it answers and tries as it is, but that they are in the
--- controller which the scan leaves. So a scan needn't have them.
+-- actor and with a number that isn't in the inbox, and credits that arrive in a later cycle, leave what a scan of it answers and tries
+-- as it is, but that they are in the controller which the scan leaves. So a scan needn't have them.
 use Rattle.std.specs.Prelude.{◌≡◌, ℕ, List}
 use Rattle.ruby_value.specs.declared.setup.MachineSetup.{MachineSetup}
 use Rattle.run_journal.specs.declared.entry.StopAt.{StopAt}
@@ -20,7 +20,7 @@ outcome_with change (Idle after) = Idle (change after)
 abbrev pub scan_with : {C M : Type 0} → (C → C) → Scan C M → Scan C M
 scan_with change s = record { outcome = outcome_with change s.outcome; tried = s.tried }
 
--- So it is in a run, where messages come to a controller; nor does it matter whether they come before a count, a mark or a stop.
+-- So it is in a run, where messages and credits come to a controller; nor does it matter whether they come before a count, a mark or a stop.
 pub record IsFramed {C M D : Type 0} (r : Rules C M D) (Fits : ℕ → C → ℕ → Type 0) (Suits : ℕ → M → ℕ → Type 0) : Type 0 where
   pub scans :
       (c now : ℕ) (x : C) (ms : List M) → MayCome r Fits Suits c now x ms

@@ -18,6 +18,7 @@ pub mod InvalidExactly
 pub mod MarksStay
 pub mod NextCycle
 pub mod Outcome
+pub mod Parcels
 pub mod Premises
 pub mod RunRules
 pub mod Run

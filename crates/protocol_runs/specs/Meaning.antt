@@ -8,18 +8,18 @@
 use Rattle.std.specs.Prelude.{◌≡◌, ◌⊎◌, ◌<◌, ◌+◌, ℕ, Bool, false, List, Contains}
 use Rattle.ruby_value.specs.declared.fault.Fault.TheVariants.{Invalid}
 use Rattle.ruby_value.specs.declared.message.Delivery.{Delivery}
-use Rattle.ruby_value.specs.declared.message.Message.{Message}
 use Rattle.ruby_value.specs.declared.setup.MachineSetup.{MachineSetup}
 use Rattle.run_journal.specs.declared.entry.FireNote.{FireNote}
 use Rattle.run_journal.specs.declared.entry.StopAt.{StopAt}
 use Rattle.protocol_runs.specs.InvalidExactly.{invalid_at}
 use Rattle.protocol_runs.specs.RunRules.{Acts, Fired, Idle, Scan, Stop, Tried}
 use Rattle.ctl_face.specs.Acts as face
+use Rattle.ctl_face.specs.declared.parcel.Parcel.{Parcel}
 use Rattle.ctl_face.specs.Prelude.{with_wake_up, Ctl, Actor, LocalView, scan_view}
 use Rattle.acts.specs.Prelude.{IsLeft}
 
 pub record Meaning : Type 0 where
-  pub scan : (machine : ℕ) → LocalView → (limit : ℕ) → Scan Ctl Message
+  pub scan : (machine : ℕ) → LocalView → (limit : ℕ) → Scan Ctl Parcel
   pub has_row : (machine state event : ℕ) → Bool
 
 -- what acts have done to messages, as an entry tells it
@@ -33,7 +33,7 @@ acts_told a = record {
 }
 
 -- a scan that began in this local has fired so
-pub record IsFired (v : LocalView) (limit : ℕ) (acts : Acts) (copies : List (Delivery Message)) (after : Ctl) : Type 0 where
+pub record IsFired (v : LocalView) (limit : ℕ) (acts : Acts) (copies : List (Delivery Parcel)) (after : Ctl) : Type 0 where
   pub few : v.ctl.fired < limit
   pub local : LocalView
   pub left : IsLeft v local
@@ -46,14 +46,14 @@ abbrev pub Rests : LocalView → Ctl → Type 0
 Rests v after = (after ≡ v.ctl) ⊎ (after ≡ with_wake_up v.ctl (v.now + 1))
 
 -- a try of this scan for which no transition is written
-pub record IsRefusedTry (has_row : ℕ → ℕ → Bool) (s : Scan Ctl Message) (t : Tried) : Type 0 where
+pub record IsRefusedTry (has_row : ℕ → ℕ → Bool) (s : Scan Ctl Parcel) (t : Tried) : Type 0 where
   pub tried : Contains s.tried t
   pub no_row : has_row t.state t.event ≡ false
 
 -- what a scan that began in this local may answer
-pub record IsScanOf (v : LocalView) (limit : ℕ) (has_row : ℕ → ℕ → Bool) (s : Scan Ctl Message) : Type 0 where
+pub record IsScanOf (v : LocalView) (limit : ℕ) (has_row : ℕ → ℕ → Bool) (s : Scan Ctl Parcel) : Type 0 where
   pub fires :
-      (note : FireNote) (acts : Acts) (copies : List (Delivery Message)) (after : Ctl)
+      (note : FireNote) (acts : Acts) (copies : List (Delivery Parcel)) (after : Ctl)
       → s.outcome ≡ Fired note acts copies after → IsFired v limit acts copies after
   pub idles : (after : Ctl) → s.outcome ≡ Idle after → Rests v after
   pub caused :

@@ -6,7 +6,8 @@ pub use Rattle.protocol_runs.specs.Requests.{member_of, request_at, request_fiel
 pub use Rattle.protocol_runs.specs.Turn.{acts_at, is_seat_of, issued_at, seat_in, seat_with, seats_in, served, taken_at}
 pub use Rattle.protocol_runs.specs.Rules.{has_row_of, mailed, opening_controllers, opening_of, rules, scan_by, scan_of}
 pub use Rattle.protocol_runs.specs.IsSetting.{AreApart, HasQueue, IsSetting, TakesRequests}
-pub use Rattle.protocol_runs.specs.Kept.{FitsRun, HasSeats, SuitsReceiver}
+pub use Rattle.protocol_runs.specs.Kept.{CreditSuits, FitsRun, HasSeats, MessageSuits, SuitsReceiver}
+pub use Rattle.protocol_runs.specs.Parcels.{parcel_numbers}
 pub use Rattle.protocol_runs.specs.Sample.{IsSampleRun, outcome_of, sample, sample_history, sample_rules, sample_setting}
 unfoldable pub use Rattle.protocol_runs.specs.Sample.{taking}
 pub use Rattle.protocol_runs.specs.Account.{IsAccounted, account, consumed_in, consumed_numbers, is_queued, is_recycled, is_stalled, sent_in, sent_numbers, times}

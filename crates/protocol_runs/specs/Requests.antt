@@ -1,4 +1,4 @@
--- The message of a request that a driver issues: it goes to the buffer `mandatoryQueue` of the seat's controller, can be seen
+-- The message of a request that a driver issues: it is a parcel, goes to the buffer `mandatoryQueue` of the seat's controller, can be seen
 -- from the next cycle on, and has the fields of `RubyRequest` in their order: `LineAddress`, `PhysicalAddress`, `Type` and
 -- `Size`. The requests that drivers issue are `LD`, `ST` and `IFETCH`, the first three members of `RubyRequestType`. That such a
 -- request takes one cycle is this project's own, and so is the driver's actor number, which comes after the last controller's.
@@ -13,6 +13,8 @@ use Rattle.ruby_value.specs.declared.message.Message.{Message}
 use Rattle.ruby_value.specs.declared.message.MsgNo.{MsgNo}
 use Rattle.ruby_value.specs.declared.value.Value.{Value}
 use Rattle.ruby_value.specs.declared.value.Value.TheVariants as value
+use Rattle.ctl_face.specs.declared.parcel.Parcel.{Parcel}
+use Rattle.ctl_face.specs.declared.parcel.Parcel.TheVariants as parcel
 use Rattle.sequencer.specs.declared.issued.Issued.{Issued}
 use Rattle.protocol_runs.specs.Setting.{SeatSetup}
 
@@ -45,12 +47,13 @@ request_message number queue now a = record {
 }
 
 -- a request at a seat; at a seat that isn't there, which no lawful turn names, it is no message
-abbrev pub request_at : Option SeatSetup → MsgNo → (now : ℕ) → Asked → List (Delivery Message)
+abbrev pub request_at : Option SeatSetup → MsgNo → (now : ℕ) → Asked → List (Delivery Parcel)
 request_at None number now a = []
-request_at (Some s) number now a = record { receiver = s.controller; message = request_message number s.queue now a } ∷ []
+request_at (Some s) number now a =
+    record { receiver = s.controller; message = parcel.Message (request_message number s.queue now a) } ∷ []
 
 -- the messages of requests, with a driver's numbers from this count on
-abbrev pub request_messages : List SeatSetup → (driver count now : ℕ) → List Issued → List (Delivery Message)
+abbrev pub request_messages : List SeatSetup → (driver count now : ℕ) → List Issued → List (Delivery Parcel)
 request_messages seats driver count now [] = []
 request_messages seats driver count now (i ∷ rest) =
     request_at (slice_get seats i.seat) (record { sender = driver; count = count }) now i.asked

@@ -1,6 +1,7 @@
--- What a run knows of its controllers, of the messages between them, and of its driver. A world touches a controller only
+-- What a run knows of its controllers, of what goes between them, and of its driver. A world touches a controller only
 -- through a scan and through a few changes, and reads only a few things off it; so worlds, steps and runs are defined over
--- any type C of controllers, M of messages and D of a driver's states. What a scan and a driver's turn do is no part of
+-- any type C of controllers, M of what goes between them and D of a driver's states. These are called messages here, whatever else
+-- may be among them. What a scan and a driver's turn do is no part of
 -- this: the rules of a run say it. That a run is made of such scans is this project's own.
 use Rattle.std.specs.Prelude.{ℕ, Bool, Option, List}
 use Rattle.ruby_value.specs.declared.fault.Finding.{Finding}
@@ -66,7 +67,7 @@ pub record Rules (C M D : Type 0) : Type 0 where
   pub has_row : ℕ → ℕ → ℕ → Bool
   -- the driver's turn among these controllers at a cycle, where it has issued n requests before
   pub driver_turn : D → List C → ℕ → ℕ → DriverTurn C M D
-  -- with one more message in its inbox
+  -- to which one more message has come
   pub with_message : C → M → C
   -- with one more cycle at which it must wake
   pub with_mark : C → ℕ → C
@@ -85,5 +86,5 @@ pub record Rules (C M D : Type 0) : Type 0 where
   pub sent : C → ℕ
   -- the numbers that it brings to an inbox: a message brings its own, and what is no message brings none
   pub numbers : M → List MsgNo
-  -- the cycle from which a message can be seen
+  -- the cycle from which on what comes counts: a message can be seen from then on
   pub arrival : M → ℕ

@@ -4,7 +4,6 @@
 use Rattle.std.specs.Prelude.{◌≡◌, ℕ, Bool, true, false, None, Some, List, [], ◌∷◌, map, pos, replicate, Result, Ok, Err, nat_le, if◌then◌else◌}
 use Rattle.ruby_value.specs.declared.fault.Fault.{Fault}
 use Rattle.ruby_value.specs.declared.kind.Kind.TheVariants as kind
-use Rattle.ruby_value.specs.declared.message.Message.{Message}
 use Rattle.ruby_value.specs.declared.setup.BufferPlace.TheVariants as place
 use Rattle.ruby_value.specs.declared.setup.BufferSetup.{BufferSetup}
 use Rattle.ruby_value.specs.declared.setup.MachineSetup.{MachineSetup}
@@ -19,6 +18,7 @@ use Rattle.protocol_runs.specs.RunRules.{Fired, Full, Idle, Outcome, Rules, Stop
 use Rattle.protocol_runs.specs.Run.{IsRun}
 use Rattle.protocol_runs.specs.World.{World}
 use Rattle.ctl_face.specs.Prelude.{Ctl, network_count, LocalView}
+use Rattle.ctl_face.specs.declared.parcel.Parcel.{Parcel}
 use Rattle.ctl_face.specs.declared.routes.Routes.{Routes}
 use Rattle.acts.specs.Prelude.{Pop, Ready, Send, Acting, ends, ◌>>=◌, ◌>>◌, act, either, run, Done}
 use Rattle.sequencer.specs.Prelude.{plain_drive}
@@ -49,6 +49,7 @@ sample_routes = record {
   jitter = 0;
   ordered = replicate network_count false;
   receiving = replicate 2 (Some 2 ∷ replicate 15 None);
+  slots = [];
 }
 
 -- a scan as a body, which answers whether it fires
@@ -60,7 +61,7 @@ taking =
     (act (Ready 2) >>= (λ came. either came (act (Pop 2) >> ends true) (ends false))))
 
 -- by what the body came to
-abbrev pub outcome_of : LocalView → Result (Done Bool) Fault → Outcome Ctl Message
+abbrev pub outcome_of : LocalView → Result (Done Bool) Fault → Outcome Ctl Parcel
 outcome_of v (Ok d) =
     if d.value
     then Fired (record { address = 0; state = 0; event = 0; next = 0 }) (acts_told d.view.acts) d.view.acts.posted d.view.ctl
@@ -89,7 +90,7 @@ sample_setting = record {
   driver = 1;
 }
 
-abbrev pub sample_rules : Rules Ctl Message ℕ
+abbrev pub sample_rules : Rules Ctl Parcel ℕ
 sample_rules = rules sample plain_drive sample_setting
 
 -- the request comes to controller 0 in cycle 1, whose message comes to controller 1 in cycle 3

@@ -11,8 +11,8 @@ pub fn held_controllers_grow<D: Driver>()
     ensures { (p : Meaning) (s : Setting D) → HeldControllersGrow (rules p D.drive s) }
 {}
 
-/// Where messages that come later are nothing to each scan of a protocol, they are nothing to the scan of a controller of a run to which
-/// they come.
+/// Where messages and credits that come later are nothing to each scan of a protocol, they are nothing to the scan of a controller of a
+/// run to which they come.
 pub fn runs_are_framed<D: Driver>()
     ensures { (p : Meaning) (s : Setting D) → IsSetting D.least s → IsFramedMeaning p
         → IsFramed (rules p D.drive s) (FitsRun s) (SuitsReceiver s) }

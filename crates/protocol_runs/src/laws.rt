@@ -36,7 +36,7 @@ pub fn turns_serve_their_seats<D>()
         → served setups controller d x ≡ x }
 {}
 
-/// The controllers of a protocol, their messages and any driver meet what the laws of runs need.
+/// The controllers of a protocol, the messages and credits between them and any driver meet what the laws of runs need.
 pub fn protocols_meet_the_premises<D: Driver>()
     ensures sound { (p : Meaning) (s : Setting D) → IsMeaning p → IsSetting D.least s
         → IsSound (rules p D.drive s) (FitsRun s) (SuitsReceiver s) (HasSeats s D.least) }
@@ -49,7 +49,7 @@ pub fn protocols_meet_the_premises<D: Driver>()
 {}
 
 /// In each world of a run each controller fits its machine, at a cycle of the run; it is to wake at the arrival of each of its messages
-/// that is still to come; and it has fired no more transitions in this cycle than it may.
+/// and credits that is still to come; and it has fired no more transitions in this cycle than it may.
 pub fn controllers_fit<D: Driver>()
     ensures { (p : Meaning) (s : Setting D) → IsMeaning p → IsSetting D.least s
         → (history : List Event) (w : World Ctl D) (journal : List Entry)

@@ -18,11 +18,11 @@ rows_one total r s is also =
     let all = is.all in
     row_one total i (get_or r i []) (get_or s i []) (is.each i (omega (arith, all, lt))) (also.each i (omega (arith, all, lt))))
 
-routes_same : (r s : Routes) → r.paths ≡ s.paths → r.jitter ≡ s.jitter → r.ordered ≡ s.ordered → r.receiving ≡ s.receiving → r ≡ s
-routes_same r s a b c d =
-    let one : Routes = record { paths = r.paths; jitter = r.jitter; ordered = r.ordered; receiving = r.receiving } in
-    let other : Routes = record { paths = s.paths; jitter = s.jitter; ordered = s.ordered; receiving = s.receiving } in
-    let same : one ≡ other = cc (a, b, c, d) in
+routes_same : (r s : Routes) → r.paths ≡ s.paths → r.jitter ≡ s.jitter → r.ordered ≡ s.ordered → r.receiving ≡ s.receiving → r.slots ≡ s.slots → r ≡ s
+routes_same r s a b c d e =
+    let one : Routes = record { paths = r.paths; jitter = r.jitter; ordered = r.ordered; receiving = r.receiving; slots = r.slots } in
+    let other : Routes = record { paths = s.paths; jitter = s.jitter; ordered = s.ordered; receiving = s.receiving; slots = s.slots } in
+    let same : one ≡ other = cc (a, b, c, d, e) in
     same
 
 topology_same : (t u : Topology) → t.counts ≡ u.counts → t.names ≡ u.names → t.routes ≡ u.routes → t.sizes ≡ u.sizes → t.seats ≡ u.seats → t ≡ u
@@ -38,7 +38,7 @@ plain_one symbols t u is also =
     let one = is.parts.routes in
     let other = also.parts.routes in
     topology_same t u (is.parts.counts_are ∙ sym also.parts.counts_are) (is.parts.names ∙ sym also.parts.names)
-    (routes_same t.routes u.routes paths (one.jitter ∙ sym other.jitter) (one.ordered ∙ sym other.ordered) (one.receiving ∙ sym other.receiving))
+    (routes_same t.routes u.routes paths (one.jitter ∙ sym other.jitter) (one.ordered ∙ sym other.ordered) (one.receiving ∙ sym other.receiving) (one.slots ∙ sym other.slots))
     (is.parts.sizes ∙ sym also.parts.sizes) (is.seats ∙ sym also.seats)
 
 pub refused_one : (symbols : Symbols) (rule line other at : ℕ) → IsRefusedPlain symbols rule line → IsRefusedPlain symbols other at → (rule ≡ other) × (line ≡ at)

@@ -6,7 +6,7 @@ use Rattle.run_journal.specs.declared.event.Event.{Event}
 use Rattle.run_journal.specs.Prelude.{AreFinals, tally}
 use Rattle.run_journal.proofs.FinalStates.{same_finals}
 use Rattle.protocol_runs.specs.Prelude.{account, IsAlone, Rules, IsRun, World, rules}
-use Rattle.ruby_value.specs.declared.message.Message.{Message}
+use Rattle.ctl_face.specs.declared.parcel.Parcel.{Parcel}
 use Rattle.ctl_face.specs.Prelude.{Ctl}
 use Rattle.slicc_ast.specs.declared.tree.item.Tree.{Tree}
 use Rattle.sequencer.specs.Prelude.{Drive, plain_drive, plain_needs, Seat}
@@ -32,7 +32,7 @@ record_same r q same b c d e f g =
     whole
 
 module _ {D : Type 0} (drive : D → List Seat → ℕ → Drive D) (needs : D → ℕ → ℕ) (law : IsDriver drive needs one_seat) (driver : D) (r q : RunRecord) (lawful : IsLawfulRun r) (same : IsSameBeginning r q) where
-  abbrev rules_for : List Tree → Topology → Options → Rules Ctl Message D
+  abbrev rules_for : List Tree → Topology → Options → Rules Ctl Parcel D
   rules_for trees t o = rules (meaning_of trees) drive (setting_of trees t o.seed o.cycles o.limit driver)
 
   same_rules : rules_in drive driver r ≡ rules_in drive driver q
@@ -43,7 +43,7 @@ module _ {D : Type 0} (drive : D → List Seat → ℕ → Drive D) (needs : D �
 
   pub one_by : IsWholeRunBy drive driver r → IsAlone (rules_in drive driver r) r.history → IsWholeRunBy drive driver q → IsAlone (rules_in drive driver q) q.history → r ≡ q
   one_by (w, is, ended) alone (v, also, closed) apart =
-      let R : Type 0 = Rules Ctl Message D in
+      let R : Type 0 = Rules Ctl Parcel D in
       let also_run : IsRun (rules_in drive driver r) q.history v q.journal = subst (λ (x : R). IsRun x q.history v q.journal) (sym same_rules) also.run in
       let also_alone : IsAlone (rules_in drive driver r) q.history = subst (λ (x : R). IsAlone x q.history) (sym same_rules) apart in
       let history : r.history ≡ q.history =

@@ -1,10 +1,12 @@
 pub mod Digits
 pub mod Ends
 pub mod Names
+pub mod Numbered
 pub mod One
 pub mod Ranges
 pub mod Rows
 pub mod Searches
+pub mod Slots
 pub mod Steps
 pub mod Texts
 pub mod Totals

@@ -1,5 +1,5 @@
 -- A file has one topology at most, or is refused by one rule at one line at most, and not both.
-use Rattle.std.proofs.Common.{◌≡◌, ◌≤◌, ◌∙◌, ℕ, Bool, true, false, Result, Ok, Err, List, [], ap, refl, sym, subst, arith, true≢false, length, get_or, ext_get_or}
+use Rattle.std.proofs.Common.{◌≡◌, ◌∙◌, ℕ, Ok, Err, List, [], ap, sym, subst, arith, true≢false, length, get_or, ext_get_or}
 use Rattle.ctl_face.specs.declared.routes.Routes.{Routes}
 use Rattle.ruby_symbols.specs.declared.symbols.Symbols.{Symbols}
 use Rattle.ruby_topology.specs.declared.forms.Link.{Link}
@@ -7,7 +7,7 @@ use Rattle.ruby_topology.specs.declared.forms.Network.{Network}
 use Rattle.ruby_topology.specs.declared.forms.Network.TheVariants.{PointToPoint, Crossbar, Mesh, Links}
 use Rattle.ruby_topology.specs.declared.forms.Statement.{Statement}
 use Rattle.ruby_topology.specs.declared.topology.Topology.{Topology}
-use Rattle.ruby_topology.specs.Prelude.{Reading, reading, AreRows, IsPath, IsRow, lines_of, HasParts, HasRoutes, IsLackingSaid, IsRefused, IsTopologyOf, IsTopologySaid, after_last, at_line, counts_of, lacks_line, links_of, members_from, members_said, network_of, no_line, no_path, no_seat}
+use Rattle.ruby_topology.specs.Prelude.{Reading, reading, AreRows, IsPath, IsRow, lines_of, IsLackingSaid, IsRefused, IsTopologyOf, IsTopologySaid, after_last, at_line, counts_of, links_of, members_from, members_said, network_of, no_line, no_path, no_seat}
 use Rattle.ruby_topology.proofs.Ends.{rows_of_all}
 
 -- Paths.
@@ -37,15 +37,17 @@ rows_are_one network links total r s h g =
 
 -- Topologies.
 
-routes_same : (r s : Routes) → r.paths ≡ s.paths → r.jitter ≡ s.jitter → r.ordered ≡ s.ordered → r.receiving ≡ s.receiving → r ≡ s
-routes_same r s paths jitter ordered receiving =
+routes_same : (r s : Routes) → r.paths ≡ s.paths → r.jitter ≡ s.jitter → r.ordered ≡ s.ordered → r.receiving ≡ s.receiving → r.slots ≡ s.slots → r ≡ s
+routes_same r s paths jitter ordered receiving slots =
     let one : r ≡ record r { paths = s.paths } = ap (λ p. record r { paths = p }) paths in
-    let two : record r { paths = s.paths } ≡ record s { ordered = r.ordered; receiving = r.receiving } =
-    ap (λ j. record s { jitter = j; ordered = r.ordered; receiving = r.receiving }) jitter in
-    let three : record s { ordered = r.ordered; receiving = r.receiving } ≡ record s { receiving = r.receiving } =
-    ap (λ o. record s { ordered = o; receiving = r.receiving }) ordered in
-    let four : record s { receiving = r.receiving } ≡ s = ap (λ x. record s { receiving = x }) receiving in
-    one ∙ two ∙ three ∙ four
+    let two : record r { paths = s.paths } ≡ record s { ordered = r.ordered; receiving = r.receiving; slots = r.slots } =
+    ap (λ j. record s { jitter = j; ordered = r.ordered; receiving = r.receiving; slots = r.slots }) jitter in
+    let three : record s { ordered = r.ordered; receiving = r.receiving; slots = r.slots } ≡ record s { receiving = r.receiving; slots = r.slots } =
+    ap (λ o. record s { ordered = o; receiving = r.receiving; slots = r.slots }) ordered in
+    let four : record s { receiving = r.receiving; slots = r.slots } ≡ record s { slots = r.slots } =
+    ap (λ x. record s { receiving = x; slots = r.slots }) receiving in
+    let five : record s { slots = r.slots } ≡ s = ap (λ x. record s { slots = x }) slots in
+    one ∙ two ∙ three ∙ four ∙ five
 
 topology_same : (t u : Topology) → t.counts ≡ u.counts → t.names ≡ u.names → t.routes ≡ u.routes → t.sizes ≡ u.sizes → t.seats ≡ u.seats → t ≡ u
 topology_same t u counts names routes sizes seats =
@@ -66,7 +68,7 @@ said_is_one symbols said t u h g =
     let one = h.parts.routes in
     let other = g.parts.routes in
     topology_same t u (h.parts.counts_are ∙ sym g.parts.counts_are) (h.parts.names ∙ sym g.parts.names)
-    (routes_same t.routes u.routes paths (one.jitter ∙ sym other.jitter) (one.ordered ∙ sym other.ordered) (one.receiving ∙ sym other.receiving))
+    (routes_same t.routes u.routes paths (one.jitter ∙ sym other.jitter) (one.ordered ∙ sym other.ordered) (one.receiving ∙ sym other.receiving) (one.slots ∙ sym other.slots))
     (h.parts.sizes ∙ sym g.parts.sizes) (h.seats ∙ sym g.seats)
 
 same_said : (r : Reading) (a b : List Statement) → r ≡ Ok a → r ≡ Ok b → a ≡ b

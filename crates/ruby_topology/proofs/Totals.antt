@@ -101,7 +101,7 @@ length_of_members machine (count ∷ counts) =
     omega (arith, rest, both, first, many, all)
 
 -- What holds of each item that is picked.
-picked : {A B : Type 0} (P : A → Type 0) (Q : B → Type 0) (pick : A → Option B) → ((x : A) (y : B) → P x → pick x ≡ Some y → Q y) → (xs : List A) → All P xs → All Q (filter_map pick xs)
+pub picked : {A B : Type 0} (P : A → Type 0) (Q : B → Type 0) (pick : A → Option B) → ((x : A) (y : B) → P x → pick x ≡ Some y → Q y) → (xs : List A) → All P xs → All Q (filter_map pick xs)
 picked P Q pick holds [] all = All-nil Q
 picked {A} {B} P Q pick holds (x ∷ xs) all =
     with_first (pick x) refl (picked P Q pick holds xs (All-tail P x xs all))

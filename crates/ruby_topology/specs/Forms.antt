@@ -3,7 +3,7 @@
 use Rattle.std.specs.Prelude.{ℕ, ◌==◌, ◌&&◌, cond, Option, None, Some, List, length, codes}
 use Rattle.std.specs.Str.{bytes_eq}
 use Rattle.ruby_topology.specs.declared.forms.Form.{Form}
-use Rattle.ruby_topology.specs.declared.forms.Form.TheVariants.{Machine, PointToPoint, Crossbar, Mesh, Links, Link, Jitter, Ordered, Cache, Tbes, Set}
+use Rattle.ruby_topology.specs.declared.forms.Form.TheVariants.{Machine, PointToPoint, Crossbar, Mesh, Links, Link, Jitter, Ordered, Cache, Tbes, Size, Set}
 use Rattle.ruby_topology.specs.Text.{word_at}
 
 -- of a line that begins with `network`, by its second word
@@ -23,7 +23,8 @@ line_form first count =
     (cond (bytes_eq first (codes "ordered") && (count == 2)) (Some Ordered)
     (cond (bytes_eq first (codes "cache") && (count == 5)) (Some Cache)
     (cond (bytes_eq first (codes "tbes") && (count == 4)) (Some Tbes)
-    (cond (bytes_eq first (codes "set") && (count == 4)) (Some Set) None))))))
+    (cond (bytes_eq first (codes "size") && (count == 4)) (Some Size)
+    (cond (bytes_eq first (codes "set") && (count == 4)) (Some Set) None)))))))
 
 abbrev pub form_of : List (List ℕ) → Option Form
 form_of words =

@@ -3,14 +3,16 @@
 -- twice, and there are never more than 64 controllers. The rules are this project's own.
 use Rattle.std.specs.Prelude.{ℕ, ◌==◌, ◌+◌, ◌*◌, Bool, true, false, cond, nat_lt, Option, None, Some, Result, Ok, Err, pos, List, [], ◌∷◌, ◌++◌, length, slice_get, option_and_then}
 use Rattle.std.specs.Option.{option_map}
+use Rattle.ctl_face.specs.Prelude.{receives}
 use Rattle.ruby_value.specs.declared.kind.Kind.{Kind}
 use Rattle.ruby_value.specs.declared.kind.Kind.TheVariants.{Int}
+use Rattle.ruby_symbols.specs.declared.machine.BufferSymbol.{BufferSymbol}
 use Rattle.ruby_symbols.specs.declared.machine.MachineSymbols.{MachineSymbols}
 use Rattle.ruby_symbols.specs.declared.machine.TableSort.{TableSort}
 use Rattle.ruby_symbols.specs.declared.machine.TableSort.TheVariants as sort
 use Rattle.ruby_symbols.specs.declared.machine.TableSymbol.{TableSymbol}
 use Rattle.ruby_symbols.specs.declared.names.Named.{Named}
-use Rattle.ruby_symbols.specs.declared.names.Named.TheVariants.{Table, Value}
+use Rattle.ruby_symbols.specs.declared.names.Named.TheVariants.{Buffer, Table, Value}
 use Rattle.ruby_symbols.specs.declared.symbols.Symbols.{Symbols}
 use Rattle.ruby_symbols.specs.declared.types.FieldSymbol.{FieldSymbol}
 use Rattle.ruby_symbols.specs.Prelude.{machine_named, stands_for}
@@ -19,7 +21,7 @@ use Rattle.ruby_topology.specs.declared.forms.Form.TheVariants as form
 use Rattle.ruby_topology.specs.declared.forms.TheConstants.{T1_FORM, T2_NUMBER, T3_NAME, T4_TWICE, T6_TOO_MANY}
 use Rattle.ruby_topology.specs.declared.forms.Network.TheVariants.{PointToPoint, Crossbar, Mesh, Links}
 use Rattle.ruby_topology.specs.declared.forms.Statement.{Statement}
-use Rattle.ruby_topology.specs.declared.forms.Statement.TheVariants.{Machine, Network, Link, Jitter, Ordered, Cache, Tbes, Set}
+use Rattle.ruby_topology.specs.declared.forms.Statement.TheVariants.{Machine, Network, Link, Jitter, Ordered, Cache, Tbes, Size, Set}
 use Rattle.ruby_topology.specs.Forms.{form_of}
 use Rattle.ruby_topology.specs.Members.{member_named}
 use Rattle.ruby_topology.specs.Said.{controllers, counted, is_links, is_said, network_said}
@@ -38,7 +40,7 @@ needs rule (Some x) says = says x
 abbrev pub number_at : List (List ℕ) → ℕ → ℕ → ℕ → Option ℕ
 number_at words place least greatest = number_within (least, greatest) (word_at words place)
 
--- Tables and numbers of a machine by name.
+-- Tables, numbers and buffers of a machine by name.
 
 abbrev pub sort_at : MachineSymbols → ℕ → Option TableSort
 sort_at m table = option_map (λ (t : TableSymbol). t.sort) (slice_get m.tables table)
@@ -60,6 +62,10 @@ abbrev pub value_in : Option Named → Option ℕ
 value_in (Some (Value value)) = Some value
 value_in _ = None
 
+abbrev pub buffer_in : Option Named → Option ℕ
+buffer_in (Some (Buffer buffer)) = Some buffer
+buffer_in _ = None
+
 abbrev pub cache_named : MachineSymbols → List ℕ → Option ℕ
 cache_named m text = option_and_then (λ table. cache_in (sort_at m table) table) (table_in (stands_for m text))
 
@@ -77,6 +83,16 @@ number_in (Some f) value = cond (is_int f.kind) (Some value) None
 -- of a parameter or an object whose values are numbers
 abbrev pub number_named : MachineSymbols → List ℕ → Option ℕ
 number_named m text = option_and_then (λ value. number_in (slice_get m.values value) value) (value_in (stands_for m text))
+
+-- the buffer of this number, where it is the machine's own or from a network
+abbrev pub receiving_in : Option BufferSymbol → ℕ → Option ℕ
+receiving_in None buffer = None
+receiving_in (Some b) buffer = cond (receives (Some b.place)) (Some buffer) None
+
+-- of a parameter or an object that is a buffer from which messages are taken
+abbrev pub receiving_named : MachineSymbols → List ℕ → Option ℕ
+receiving_named m text =
+    option_and_then (λ buffer. receiving_in (slice_get m.buffers buffer) buffer) (buffer_in (stands_for m text))
 
 -- The lines.
 
@@ -131,6 +147,14 @@ tbes_line symbols words =
     needs T3_NAME (in_machine symbols machine (λ m. tbes_named m (word_at words 2))) (λ table.
     Ok (Tbes machine table entries))))
 
+-- 0 slots are no size
+abbrev pub size_line : Symbols → List (List ℕ) → Says
+size_line symbols words =
+    needs T2_NUMBER (number_at words 3 0 65536) (λ slots.
+    needs T3_NAME (machine_named symbols (word_at words 1)) (λ machine.
+    needs T3_NAME (in_machine symbols machine (λ m. receiving_named m (word_at words 2))) (λ buffer.
+    Ok (Size machine buffer slots))))
+
 abbrev pub set_line : Symbols → List (List ℕ) → Says
 set_line symbols words =
     needs T2_NUMBER (number_at words 3 0 0x7fff_ffff_ffff_ffff) (λ number.
@@ -150,6 +174,7 @@ says_in symbols said words (Some form.Jitter) = jitter_line words
 says_in symbols said words (Some form.Ordered) = ordered_line words
 says_in symbols said words (Some form.Cache) = cache_line symbols words
 says_in symbols said words (Some form.Tbes) = tbes_line symbols words
+says_in symbols said words (Some form.Size) = size_line symbols words
 says_in symbols said words (Some form.Set) = set_line symbols words
 
 -- what a statement is after those that were said before it

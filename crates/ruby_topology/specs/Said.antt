@@ -7,7 +7,7 @@ use Rattle.ruby_topology.specs.declared.forms.Member.{Member}
 use Rattle.ruby_topology.specs.declared.forms.Network.{Network as NetworkOf}
 use Rattle.ruby_topology.specs.declared.forms.Network.TheVariants.{Links}
 use Rattle.ruby_topology.specs.declared.forms.Statement.{Statement}
-use Rattle.ruby_topology.specs.declared.forms.Statement.TheVariants.{Machine, Network, Link, Jitter, Ordered, Cache, Tbes, Set}
+use Rattle.ruby_topology.specs.declared.forms.Statement.TheVariants.{Machine, Network, Link, Jitter, Ordered, Cache, Tbes, Size, Set}
 
 -- the first answer that there is
 abbrev pub first_some : {A B : Type 0} → (A → Option B) → List A → Option B
@@ -64,6 +64,14 @@ sizes_table machine table _ = false
 abbrev pub is_sized : List Statement → ℕ → ℕ → Bool
 is_sized said machine table = list_any (sizes_table machine table) said
 
+-- the line says how many slots each sender has in the buffer of this number of the machine
+abbrev pub sizes_buffer : ℕ → ℕ → Statement → Bool
+sizes_buffer machine buffer (Size m b slots) = (m == machine) && (b == buffer)
+sizes_buffer machine buffer _ = false
+
+abbrev pub is_buffer_sized : List Statement → ℕ → ℕ → Bool
+is_buffer_sized said machine buffer = list_any (sizes_buffer machine buffer) said
+
 abbrev pub sets_value : ℕ → ℕ → Statement → Bool
 sets_value machine value (Set m v number) = (m == machine) && (v == value)
 sets_value machine value _ = false
@@ -92,4 +100,5 @@ is_said said (Jitter j) = is_some (jitter_said said)
 is_said said (Ordered network) = is_ordered_said said network
 is_said said (Cache machine table sets ways) = is_sized said machine table
 is_said said (Tbes machine table entries) = is_sized said machine table
+is_said said (Size machine buffer slots) = is_buffer_sized said machine buffer
 is_said said (Set machine value number) = is_set said machine value

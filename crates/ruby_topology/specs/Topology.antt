@@ -1,7 +1,7 @@
 -- The topology that the lines of a file say, and why there is none. The lines say it only where none breaks a rule, each machine
 -- has a line, any two controllers have a path, and some controller can be asked by a driver. What isn't said has its default: a
--- network `pt2pt 1`, no jitter. The form of a topology is this project's own.
-use Rattle.std.specs.Prelude.{ℕ, ◌≡◌, ◌≤◌, ◌+◌, ◌==◌, ◌&&◌, ◌||◌, All, Bool, true, false, cond, ℤ, Option, None, Some, Ok, Err, List, [], ◌∷◌, ◌++◌, is_none, is_some, length, map, option_and_then, position, slice_get, unwrap_or}
+-- network `pt2pt 1`, no jitter, and no buffer has a size. The form of a topology is this project's own.
+use Rattle.std.specs.Prelude.{ℕ, ◌≡◌, ◌+◌, ◌==◌, ◌&&◌, ◌||◌, Bool, true, false, cond, nat_lt, ℤ, Option, None, Some, Ok, Err, List, [], ◌∷◌, ◌++◌, is_none, is_some, length, map, option_and_then, position, slice_get, unwrap_or}
 use Rattle.std.specs.List.{enumerate_from, filter_map, list_any, range_with_len}
 use Rattle.std.specs.Option.{option_map_or}
 use Rattle.ctl_face.specs.declared.routes.Routes.{Routes}
@@ -18,13 +18,13 @@ use Rattle.ruby_topology.specs.declared.forms.Member.{Member}
 use Rattle.ruby_topology.specs.declared.forms.Network.{Network}
 use Rattle.ruby_topology.specs.declared.forms.Network.TheVariants.{PointToPoint}
 use Rattle.ruby_topology.specs.declared.forms.Statement.{Statement}
-use Rattle.ruby_topology.specs.declared.forms.Statement.TheVariants.{Link, Cache, Tbes, Set}
+use Rattle.ruby_topology.specs.declared.forms.Statement.TheVariants.{Link, Cache, Tbes, Size, Set}
 use Rattle.ruby_topology.specs.declared.topology.Seat.{Seat}
 use Rattle.ruby_topology.specs.declared.topology.Topology.{Topology}
 use Rattle.ruby_topology.specs.Lines.{reading}
 use Rattle.ruby_topology.specs.Members.{controller_name, count_or_none, machine_name}
 use Rattle.ruby_topology.specs.Paths.{AreRows, HasIsland}
-use Rattle.ruby_topology.specs.Said.{controllers, count_of, is_member, is_ordered_said, jitter_said, network_said}
+use Rattle.ruby_topology.specs.Said.{count_of, is_member, is_ordered_said, jitter_said, network_said}
 use Rattle.ruby_topology.specs.Text.{lines_of}
 
 -- Controllers.
@@ -96,6 +96,19 @@ has_ordered network m = list_any (calls_ordered network) m.buffers
 abbrev pub is_ordered_on : Symbols → List Statement → ℕ → Bool
 is_ordered_on symbols said network = is_ordered_said said network || list_any (has_ordered network) symbols.machines
 
+-- Slots: the buffers with a size, controller by controller in the order of their numbers, and at each in the order of the lines of its
+-- machine. A line with 0 slots gives no size.
+
+abbrev pub slot_in : (controller machine : ℕ) → Statement → Option (ℕ × ℕ × ℕ)
+slot_in controller machine (Size m buffer slots) = cond ((m == machine) && nat_lt 0 slots) (Some (controller, buffer, slots)) None
+slot_in controller machine _ = None
+
+-- of these controllers, of which the first has this number
+abbrev pub slots_from : List Statement → (controller : ℕ) → List Member → List (ℕ × ℕ × ℕ)
+slots_from said controller [] = []
+slots_from said controller (c ∷ members) =
+    filter_map (slot_in controller c.machine) said ++ slots_from said (controller + 1) members
+
 -- Sizes of a machine.
 
 abbrev pub cache_of : ℕ → Statement → Option (ℕ × ℕ × ℕ)
@@ -141,6 +154,7 @@ pub record HasRoutes (symbols : Symbols) (said : List Statement) (members : List
   pub jitter : routes.jitter ≡ unwrap_or (jitter_said said) 0
   pub ordered : routes.ordered ≡ map (is_ordered_on symbols said) (range_with_len 0 16)
   pub receiving : routes.receiving ≡ map (λ (c : Member). receiving_of symbols c.machine) members
+  pub slots : routes.slots ≡ slots_from said 0 members
 
 -- the parts of a topology but its seats, for so many controllers of each machine
 pub record HasParts (symbols : Symbols) (said : List Statement) (counts : List ℕ) (t : Topology) : Type 0 where
@@ -191,7 +205,7 @@ pub data IsRefused (symbols : Symbols) (bytes : List ℕ) (rule line : ℕ) : Ty
       → IsLackingSaid symbols said rule → IsRefused symbols bytes rule line
 
 -- A plain run: one machine with one controller, which a driver asks through its own buffer `mandatoryQueue`, on which a port of
--- type `RubyRequest` is. All else has its default.
+-- type `RubyRequest` is. All else has its default, so no buffer has a size.
 
 abbrev pub can_be_plain : Symbols → Bool
 can_be_plain symbols =

@@ -3,7 +3,7 @@ use Rattle.std.specs.Prelude.{ℕ, ◌≤◌, ◌*◌, pos, ◌≤ℤ◌}
 use Rattle.ruby_topology.specs.declared.forms.Network.{Network as NetworkOf}
 use Rattle.ruby_topology.specs.declared.forms.Network.TheVariants.{PointToPoint, Crossbar, Mesh, Links}
 use Rattle.ruby_topology.specs.declared.forms.Statement.{Statement}
-use Rattle.ruby_topology.specs.declared.forms.Statement.TheVariants.{Machine, Network, Link, Jitter, Ordered, Cache, Tbes, Set}
+use Rattle.ruby_topology.specs.declared.forms.Statement.TheVariants.{Machine, Network, Link, Jitter, Ordered, Cache, Tbes, Size, Set}
 
 abbrev pub longest_step : ℕ
 longest_step = 1000
@@ -23,4 +23,5 @@ IsWithin (Jitter jitter) = jitter ≤ 1000
 IsWithin (Ordered network) = network ≤ 15
 IsWithin (Cache machine table sets ways) = (1 ≤ sets) × (1 ≤ ways) × (sets * ways ≤ 65536)
 IsWithin (Tbes machine table entries) = (1 ≤ entries) × (entries ≤ 256)
+IsWithin (Size machine buffer slots) = slots ≤ 65536
 IsWithin (Set machine value number) = pos 0 ≤ℤ number

@@ -19,6 +19,7 @@ pub enum Form {
     Ordered,
     Cache,
     Tbes,
+    Size,
     Set,
 }
 
@@ -55,6 +56,8 @@ fn line_form(first: &[u8], count: usize) -> Option<Form>
         Some(Form::Cache)
     } else if first == b"tbes".as_slice() && count == 4 {
         Some(Form::Tbes)
+    } else if first == b"size".as_slice() && count == 4 {
+        Some(Form::Size)
     } else if first == b"set".as_slice() && count == 4 {
         Some(Form::Set)
     } else {
@@ -130,6 +133,13 @@ pub enum Statement {
         machine: u16,
         table: u16,
         entries: u32,
+    },
+    /// How many slots each sender has in a buffer that takes messages, at each controller of the machine: 0 to 65,536, where 0 is
+    /// no size.
+    Size {
+        machine: u16,
+        buffer: u16,
+        slots: u64,
     },
     /// The number that a parameter or an object has as a run begins.
     Set {

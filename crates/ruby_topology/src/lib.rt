@@ -6,6 +6,7 @@ mod forms;
 mod laws;
 mod lines;
 mod members;
+mod named;
 mod paths;
 mod routes;
 mod said;

@@ -1,7 +1,7 @@
 //! What each line says, or the rule that it breaks.
 ghost use Rattle.std.specs.Prelude.{◌≡◌, ◌≤◌, ◌+◌, All, IfOk, IfErr, IfSome, OnOk, length};
 ghost use Rattle.ruby_topology.specs.Faults.{ForLine};
-ghost use Rattle.ruby_topology.specs.Lines.{cache_line, cache_named, crossbar_line, in_machine, judged, jitter_line, link_line, machine_line, mesh_line, number_at, number_named, ordered_line, point_to_point_line, reading, says_in, set_line, sort_at, table_in, tbes_line, tbes_named, value_in, with_line};
+ghost use Rattle.ruby_topology.specs.Lines.{cache_line, crossbar_line, judged, jitter_line, link_line, machine_line, mesh_line, number_at, ordered_line, point_to_point_line, reading, says_in, set_line, size_line, tbes_line, with_line};
 ghost use Rattle.ruby_topology.specs.Forms.{form_of};
 ghost use Rattle.ruby_topology.specs.Said.{controllers, counted};
 ghost use Rattle.ruby_topology.specs.Text.{lines_of, words_of};
@@ -12,11 +12,11 @@ use crate::forms::{
     form_of,
 };
 use crate::members::member_named;
+use crate::named::{cache_named, number_named, receiving_named, tbes_named};
 use crate::said::{controllers, counted, is_links, is_said, network_said};
 use crate::text::{before_comment, first_line, number_within, word_at, word_count};
 use ruby_base::Seq;
-use ruby_symbols::{MachineSymbols, Named, Symbols, TableSort, machine_named, stands_for};
-use ruby_value::Kind;
+use ruby_symbols::{Symbols, machine_named};
 use std::alloc::Global;
 
 fn number_at(text: &[u8], place: usize, least: u64, greatest: u64) -> Option<u64>
@@ -123,68 +123,6 @@ fn ordered_line(text: &[u8]) -> Result<Statement, u8>
     }
 }
 
-fn sort_at(m: &MachineSymbols, table: u16) -> Option<TableSort>
-    ensures { result ≡ sort_at m.now table }
-{
-    let found = m.tables.get(usize::from(table))?;
-    Some(found.sort)
-}
-
-fn table_in(named: Option<Named>) -> Option<u16>
-    ensures { result ≡ table_in named }
-{
-    match named {
-        Some(Named::Table(table)) => Some(table),
-        _ => None,
-    }
-}
-
-fn value_in(named: Option<Named>) -> Option<u16>
-    ensures { result ≡ value_in named }
-{
-    match named {
-        Some(Named::Value(value)) => Some(value),
-        _ => None,
-    }
-}
-
-// The cache of this name of a machine.
-fn cache_named(symbols: &Symbols, machine: u16, name: &[u8]) -> Option<u16>
-    ensures { result ≡ in_machine symbols.now machine (λ m. cache_named m name.now) }
-{
-    let m = symbols.machines.get(usize::from(machine))?;
-    let table = table_in(stands_for(m, name))?;
-    match sort_at(m, table) {
-        Some(TableSort::Cache) => Some(table),
-        _ => None,
-    }
-}
-
-// The TBE table of this name of a machine.
-fn tbes_named(symbols: &Symbols, machine: u16, name: &[u8]) -> Option<u16>
-    ensures { result ≡ in_machine symbols.now machine (λ m. tbes_named m name.now) }
-{
-    let m = symbols.machines.get(usize::from(machine))?;
-    let table = table_in(stands_for(m, name))?;
-    match sort_at(m, table) {
-        Some(TableSort::Tbe { .. }) => Some(table),
-        _ => None,
-    }
-}
-
-// The parameter or object of this name of a machine, whose values are numbers.
-fn number_named(symbols: &Symbols, machine: u16, name: &[u8]) -> Option<u16>
-    ensures { result ≡ in_machine symbols.now machine (λ m. number_named m name.now) }
-{
-    let m = symbols.machines.get(usize::from(machine))?;
-    let value = value_in(stands_for(m, name))?;
-    let field = m.values.get(usize::from(value))?;
-    match field.kind {
-        Kind::Int => Some(value),
-        _ => None,
-    }
-}
-
 fn cache_line(symbols: &Symbols, text: &[u8]) -> Result<Statement, u8>
     ensures says { result ≡ cache_line symbols.now (words_of text.now) }
     ensures within { IfOk result IsWithin }
@@ -232,6 +170,26 @@ fn tbes_line(symbols: &Symbols, text: &[u8]) -> Result<Statement, u8>
     })
 }
 
+fn size_line(symbols: &Symbols, text: &[u8]) -> Result<Statement, u8>
+    ensures says { result ≡ size_line symbols.now (words_of text.now) }
+    ensures within { IfOk result IsWithin }
+{
+    let Some(slots) = number_at(text, 3, 0, 65536) else {
+        return Err(T2_NUMBER);
+    };
+    let Some(machine) = machine_named(symbols, word_at(text, 1)) else {
+        return Err(T3_NAME);
+    };
+    let Some(buffer) = receiving_named(symbols, machine, word_at(text, 2)) else {
+        return Err(T3_NAME);
+    };
+    Ok(Statement::Size {
+        machine,
+        buffer,
+        slots,
+    })
+}
+
 fn set_line(symbols: &Symbols, text: &[u8]) -> Result<Statement, u8>
     ensures says { result ≡ set_line symbols.now (words_of text.now) }
     ensures within { IfOk result IsWithin }
@@ -268,6 +226,7 @@ fn says(symbols: &Symbols, said: &[Statement], text: &[u8]) -> Result<Statement,
         Some(Form::Ordered) => ordered_line(text),
         Some(Form::Cache) => cache_line(symbols, text),
         Some(Form::Tbes) => tbes_line(symbols, text),
+        Some(Form::Size) => size_line(symbols, text),
         Some(Form::Set) => set_line(symbols, text),
     }
 }

@@ -1,10 +1,10 @@
-//! Links by numbers, buffers on virtual networks, sizes and seats.
-ghost use Rattle.std.specs.Prelude.{◌≡◌, ◌≤◌, IfOk, length, map};
+//! Links by numbers, buffers on virtual networks, slots, sizes and seats.
+ghost use Rattle.std.specs.Prelude.{◌≡◌, ◌≤◌, ◌++◌, IfOk, OnOk, length, map};
 ghost use Rattle.std.specs.List.{filter_map, list_any, position, range_with_len};
 ghost use Rattle.ruby_symbols.specs.declared.machine.BufferSymbol.{BufferSymbol};
 ghost use Rattle.ruby_topology.specs.declared.forms.Member.{Member};
 ghost use Rattle.ruby_topology.specs.Topology.{number_in, value_of};
-ghost use Rattle.ruby_topology.specs.Prelude.{cache_of, calls_ordered, can_be_asked, has_ordered, is_from, is_on, is_ordered_on, is_seat, link_in, links_of, receiving_at, receiving_of, seat_of, seats_of, sizes_of, tbes_of};
+ghost use Rattle.ruby_topology.specs.Prelude.{cache_of, calls_ordered, can_be_asked, has_ordered, is_from, is_on, is_ordered_on, is_seat, link_in, links_of, receiving_at, receiving_of, seat_of, seats_of, sizes_of, slot_in, slots_from, tbes_of};
 
 use crate::forms::{Link, Member, Statement};
 use crate::members::push_some;
@@ -147,6 +147,56 @@ pub fn ordered(alloc: Global, symbols: &Symbols, said: &[Statement]) -> Result<S
         ordered.push(keeps_order(symbols, said, network))?;
     }
     Ok(ordered)
+}
+
+// The size that a line gives a buffer of a controller of a machine.
+fn slot_in(s: &Statement, controller: u32, machine: usize) -> Option<(u32, u16, u64)>
+    ensures { result ≡ slot_in controller machine s.now }
+{
+    match s {
+        Statement::Size {
+            machine: m,
+            buffer,
+            slots,
+        } => {
+            if usize::from(*m) == machine && *slots > 0 {
+                Some((controller, *buffer, *slots))
+            } else {
+                None
+            }
+        }
+        _ => None,
+    }
+}
+
+fn add_slots(
+    all: &mut Seq<(u32, u16, u64)>,
+    said: &[Statement],
+    controller: u32,
+    machine: usize,
+) -> Result<(), NoMemory>
+    ensures { OnOk result (all.new ≡ all.old ++ filter_map (slot_in controller machine) said.now) }
+{
+    for s in said {
+        push_some(all, slot_in(s, controller, machine))?;
+    }
+    Ok(())
+}
+
+/// The buffers with a size: the controller, the number within its machine, and how many slots each sender has there.
+pub fn slots(
+    alloc: Global,
+    said: &[Statement],
+    members: &[Member],
+) -> Result<Seq<(u32, u16, u64)>, NoMemory>
+    requires { length members.now ≤ 64 }
+    ensures { IfOk result (λ slots. slots ≡ slots_from said.now 0 members.now) }
+{
+    let mut slots = Seq::new(alloc);
+    for (number, c) in members.iter().enumerate() {
+        add_slots(&mut slots, said, number as u32, c.machine)?;
+    }
+    Ok(slots)
 }
 
 fn cache_of(s: &Statement, machine: usize) -> Option<(u16, u32, u32)>

@@ -1,6 +1,6 @@
 //! What the lines so far say.
 ghost use Rattle.std.specs.Prelude.{◌≡◌, ◌≤◌, is_some};
-ghost use Rattle.ruby_topology.specs.Prelude.{controllers, count_in, count_of, counted, is_linked, is_links, is_member, is_ordered_said, is_said, is_set, is_sized, jitter_in, jitter_said, joins, network_in, network_said, orders, sets_value, sizes_table};
+ghost use Rattle.ruby_topology.specs.Prelude.{controllers, count_in, count_of, counted, is_buffer_sized, is_linked, is_links, is_member, is_ordered_said, is_said, is_set, is_sized, jitter_in, jitter_said, joins, network_in, network_said, orders, sets_value, sizes_buffer, sizes_table};
 
 use crate::forms::{Member, Network, Statement};
 
@@ -137,6 +137,25 @@ fn is_sized(said: &[Statement], machine: u16, table: u16) -> bool
     said.iter().any(|s| sizes_table(s, machine, table))
 }
 
+fn sizes_buffer(s: &Statement, machine: u16, buffer: u16) -> bool
+    ensures { result ≡ sizes_buffer machine buffer s.now }
+{
+    match s {
+        Statement::Size {
+            machine: m,
+            buffer: b,
+            ..
+        } => *m == machine && *b == buffer,
+        _ => false,
+    }
+}
+
+fn is_buffer_sized(said: &[Statement], machine: u16, buffer: u16) -> bool
+    ensures { result ≡ is_buffer_sized said.now machine buffer }
+{
+    said.iter().any(|s| sizes_buffer(s, machine, buffer))
+}
+
 fn sets_value(s: &Statement, machine: u16, value: u16) -> bool
     ensures { result ≡ sets_value machine value s.now }
 {
@@ -197,6 +216,11 @@ pub fn is_said(said: &[Statement], s: &Statement) -> bool
         Statement::Ordered(network) => is_ordered_said(said, *network),
         Statement::Cache { machine, table, .. } => is_sized(said, *machine, *table),
         Statement::Tbes { machine, table, .. } => is_sized(said, *machine, *table),
+        Statement::Size {
+            machine,
+            buffer,
+            ..
+        } => is_buffer_sized(said, *machine, *buffer),
         Statement::Set { machine, value, .. } => is_set(said, *machine, *value),
     }
 }

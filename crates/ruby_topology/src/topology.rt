@@ -13,7 +13,7 @@ use crate::forms::{Member, Network, Statement, T5_NO_LINE, T7_NO_PATH, T8_NO_SEA
 use crate::lines::read_lines;
 use crate::members::{counts, members, names, ranges};
 use crate::paths::{computed_row, rows};
-use crate::routes::{links, ordered, receiving, seats, sizes};
+use crate::routes::{links, ordered, receiving, seats, sizes, slots};
 use crate::said::{jitter_said, network_said};
 use ctl_face::Routes;
 use ruby_base::{NoMemory, Seq, Text};
@@ -72,16 +72,19 @@ fn routes(
     members: &[Member],
     paths: Seq<Seq<u64>>,
 ) -> Result<Routes, NoMemory>
+    requires { length members.now ≤ 64 }
     ensures { IfOk result (HasRoutes symbols.now said.now members.now paths) }
 {
     let ordered = ordered(alloc, symbols, said)?;
     let receiving = receiving(alloc, symbols, members)?;
+    let slots = slots(alloc, said, members)?;
     let jitter = jitter_said(said).unwrap_or(0);
     Ok(Routes {
         paths,
         jitter,
         ordered,
         receiving,
+        slots,
     })
 }
 

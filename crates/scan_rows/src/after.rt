@@ -6,8 +6,8 @@ ghost use Rattle.controller_rows.specs.Prelude.{GoesOn, IsEndOf};
 
 use crate::left::{add_copies, add_lines, add_mail, add_requests};
 use controller_rows::{ScanEnd, apply, wake_again};
-use ctl_face::{Message, NoMemory, Routes, Seq};
-use ctl_store::{Draft, Store};
+use ctl_face::{NoMemory, Parcel, Routes, Seq};
+use ctl_store::{Draft, Scratch, Store};
 use example_texts::RowText;
 use ruby_value::Delivery;
 use std::alloc::Global;
@@ -20,7 +20,7 @@ fn leave(
     routes: &Routes,
     now: u64,
     end: ScanEnd,
-) -> Result<Seq<Delivery<Message>>, NoMemory>
+) -> Result<Seq<Delivery<Parcel>>, NoMemory>
     requires goes { GoesOn store.old routes.now now }
     requires few { (ctl_of store.old).fired < 2 }
     requires cycle { now ≤ last_cycle }
@@ -43,13 +43,16 @@ fn add_left(
     store: &mut Store,
     routes: &Routes,
     now: u64,
-    copies: &[Delivery<Message>],
+    copies: &[Delivery<Parcel>],
 )
     requires goes { GoesOn store.old routes.now now }
     requires cycle { now ≤ last_cycle }
 {
     add_mail(rows, store, now);
-    let draft = Draft::on(rows.alloc(), store, routes, 0, now);
+    let Ok(scratch) = Scratch::new(rows.alloc()) else {
+        return rows.lose();
+    };
+    let draft = Draft::on(scratch, store, routes, 0, now);
     add_lines(rows, &draft);
     drop(draft);
     add_copies(rows, store.machine(), copies);

@@ -6,7 +6,7 @@ ghost use Rattle.controller_rows.specs.Prelude.{GoesOn, IsDone};
 
 use controller_rows::apply;
 use ctl_face::{Local, Routes, Trouble, receives};
-use ctl_store::{Draft, Outcome, Store};
+use ctl_store::{Draft, Outcome, Scratch, Store};
 use run_journal::FireNote;
 use std::alloc::Global;
 
@@ -53,7 +53,7 @@ fn prepared(
     requires cycle { now ≤ last_cycle }
     ensures { IfOk result (IsDone store.now now) }
 {
-    let mut draft = Draft::on(alloc, store, routes, 0, now);
+    let mut draft = Draft::on(Scratch::new(alloc)?, store, routes, 0, now);
     match prepare(&mut draft, before) {
         Ok(()) => Ok(draft.seal(FireNote {
             address: 0,

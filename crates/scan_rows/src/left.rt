@@ -2,7 +2,7 @@
 // lines of its tables, what its scan has sent to another controller, and the requests that its scan has finished.
 use crate::shown::{add_block, add_value, state_name};
 use acts::{Local, Ref, Value, get, lookup, state};
-use ctl_face::{Fields, MachineSetup, Message, NoMemory};
+use ctl_face::{Fields, MachineSetup, Message, NoMemory, Parcel};
 use ctl_store::Store;
 use example_texts::RowText;
 use ruby_value::{Answer, Ask, Delivery};
@@ -146,24 +146,27 @@ fn add_message(rows: &mut RowText, message: &Message, initial: &Fields) {
     }
 }
 
-fn add_copy(rows: &mut RowText, machine: &MachineSetup, copy: &Delivery<Message>) {
-    add_thing(rows, "copy for", u64::from(copy.receiver));
-    let Some(buffer) = machine.buffers.get(usize::from(copy.message.buffer)) else {
+fn add_copy(rows: &mut RowText, machine: &MachineSetup, receiver: u32, message: &Message) {
+    add_thing(rows, "copy for", u64::from(receiver));
+    let Some(buffer) = machine.buffers.get(usize::from(message.buffer)) else {
         return rows.lose();
     };
     match Fields::of_kinds(rows.alloc(), &buffer.kinds) {
         Ok(initial) => {
-            add_message(rows, &copy.message, &initial);
+            add_message(rows, message, &initial);
             drop(initial);
         }
         Err(NoMemory) => rows.lose(),
     }
 }
 
-/// Adds the copies that were sent to another controller of the machine.
-pub(crate) fn add_copies(rows: &mut RowText, machine: &MachineSetup, copies: &[Delivery<Message>]) {
+/// Adds the copies and credits that were sent to another controller of the machine.
+pub(crate) fn add_copies(rows: &mut RowText, machine: &MachineSetup, copies: &[Delivery<Parcel>]) {
     for copy in copies {
-        add_copy(rows, machine, copy);
+        match &copy.message {
+            Parcel::Message(message) => add_copy(rows, machine, copy.receiver, message),
+            Parcel::Credit(_) => add_thing(rows, "credit for", u64::from(copy.receiver)),
+        }
     }
 }
 

@@ -1,3 +1,4 @@
 pub mod Tries
 pub mod Rounds
 pub mod Stalls
+pub mod Short

@@ -1,4 +1,4 @@
--- A written transition is stalled where a table is short of free lines or its actions say so. Else it is found which state it enters, and
+-- A written transition is stalled where there is no room for its actions or these say so. Else it is found which state it enters, and
 -- then it fires.
 use Rattle.std.proofs.Common.{◌≡◌, ◌∙◌, ℕ, Bool, true, false, Result, Ok, Err, sym}
 use Rattle.ruby_symbols.specs.declared.machine.TransitionSymbol.{TransitionSymbol}
@@ -6,13 +6,13 @@ use Rattle.ctl_face.specs.declared.trouble.Trouble.{Trouble}
 use Rattle.ctl_face.specs.Prelude.{LocalView}
 use Rattle.acts.specs.Prelude.{Acting, ◌>>=◌, either, DoesAs, itself}
 use Rattle.acts.proofs.Walk.{false_does, then_does, then_stops, true_does}
-use Rattle.body_meaning.specs.Prelude.{Reading, need, fired, is_short, is_stall_among, next_state, row_tried, waiting}
+use Rattle.body_meaning.specs.Prelude.{Reading, fired, is_stall_among, lacks_room, next_state, row_tried, waiting}
 use Rattle.body_meaning.specs.declared.thing.Trigger.{Trigger}
 use Rattle.body_meaning.specs.declared.frame.Tried.{Tried}
 
 module _ (s : Reading) (t : Trigger) (state : ℕ) (row : TransitionSymbol) (u v w : LocalView) where
   abbrev shortness : Acting Bool
-  shortness = is_short (need s row.actions) 0 s.machine.tables
+  shortness = lacks_room s row.actions
 
   abbrev entered : Acting ℕ
   entered = next_state s t.address state row.next

@@ -1,2 +1,3 @@
 pub mod TriesAs
+pub mod Room
 pub mod Prelude

@@ -6,7 +6,7 @@ ghost use Rattle.body_meaning.specs.Prelude.{reading, about, fired, is_for, know
 ghost use Rattle.statement_walk.specs.Prelude.{HasFew};
 ghost use Rattle.scan_walk.specs.Prelude.{TriesAs};
 
-use crate::actions::{actions_done, is_among, is_short, is_stall_among};
+use crate::actions::{actions_done, is_among, is_stall_among, lacks_room};
 use crate::halt::{Halt, told};
 use acts::{Fault, Local, Trouble, again};
 use body_meaning::{About, Known, Scope, Tried, Trigger};
@@ -91,7 +91,7 @@ fn row_tried<T: Local>(
     ensures { DoesAs itself (row_tried (reading s.entry) t state row.now) result (T.view local.old)
         (T.view local.new) }
 {
-    let short = is_short(s, &row.actions, 0, &s.machine.tables, local)?;
+    let short = lacks_room(s, &row.actions, local)?;
     if short {
         return waiting(local);
     }

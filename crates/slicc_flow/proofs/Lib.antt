@@ -10,3 +10,4 @@ pub mod Ways
 pub mod FirstNames
 pub mod PartLists
 pub mod PartsOfBoxes
+pub mod SendLists

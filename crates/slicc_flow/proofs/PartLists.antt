@@ -41,7 +41,7 @@ pub stmt_rows : (names : Names) (n : _) (row : Row_of-Stmt n) → row_parts name
 stmt_rows names n end_of-Stmt = refl
 stmt_rows names n (more_of-Stmt first row) = ap (λ parts. stmt_parts names first ++ parts) (stmt_rows names _ row)
 
-statements_held : (statements : List Stmt) → items-the_row-Stmt _ (block.hidden-the_row-Stmt-0 statements) ≡ statements
+pub statements_held : (statements : List Stmt) → items-the_row-Stmt _ (block.hidden-the_row-Stmt-0 statements) ≡ statements
 statements_held statements = search (rules, the_lemmas)
 
 held_parts : (names : Names) (statements : List Stmt) → row_parts names (block.hidden-the_row-Stmt-0 statements) ≡ flat_map (stmt_parts names) statements

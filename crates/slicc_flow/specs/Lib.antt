@@ -1,4 +1,5 @@
 pub mod Checks
+pub mod Sends
 pub mod Flows
 pub mod Machines
 pub mod Marks

@@ -8,14 +8,14 @@ use crate::machine::MachineBodies;
 use ruby_base::Seq;
 use std::marker::Model;
 
-/// What each transition of a protocol's machines needs. A contract sees it as the tables that its actions check, one by one,
+/// What each transition of a protocol's machines needs of tables. A contract sees it as the tables that its actions check, one by one,
 /// machine by machine and transition by transition.
 #[derive(Drop)]
-pub struct Flow {
+pub struct Needs {
     machines: Seq<MachineBodies>,
 }
 
-impl Model for Flow {
+impl Model for Needs {
     ghost use Rattle.std.specs.Prelude.{ℕ, List};
     ghost use Rattle.slicc_flow.specs.Machines.{checks_in};
 
@@ -36,12 +36,12 @@ fn count(checks: &[u32], table: u16) -> u64
     n
 }
 
-impl Flow {
+impl Needs {
     // What the transitions of these machines need.
-    pub fn of(machines: Seq<MachineBodies>) -> Flow
+    pub fn of(machines: Seq<MachineBodies>) -> Needs
         ensures { result ≡ checks_in machines }
     {
-        Flow { machines }
+        Needs { machines }
     }
 
     /// How many free lines a written transition of a machine needs in a table, all by their numbers. It is 0 where there is no

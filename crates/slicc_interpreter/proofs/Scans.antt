@@ -25,7 +25,8 @@ pub few_of : (m : MachineSymbols) → HasNumbers m → HasFew m
 few_of m has =
     let functions : length m.functions ≤ 256 = has.functions in
     let tables : length m.tables ≤ 64 = has.tables in
-    record { functions = omega arith; tables = omega arith }
+    let buffers : length m.buffers ≤ 64 = has.buffers in
+    record { functions = omega arith; tables = omega arith; buffers = omega arith }
 
 module _ (trees : List Tree) (machine limit fired : ℕ) (v : LocalView) where
   pub without_machine : slice_get (symbols_of trees).machines machine ≡ None → IsRoundOf (scan_of trees machine limit fired v) (Ok Idle) v v

@@ -1,195 +1,286 @@
--- Lists with places for messages, one for each line that has any: what stays so as messages come and go.
-use Rattle.std.proofs.Common.{◌≡◌, ◌==◌, ℕ, zero, suc, ◌+◌, ◌<◌, ◌≤◌, max, Bool, true, false, not, Option, None, Some, List, [], ◌∷◌, ◌++◌, length, cond, vec_capacity, refl, sym, ap, subst, ◌∙◌, ◌-◌, length-append, Result, Ok, Err, OnOk, is_err, arith}
-use Rattle.std.proofs.lemmas.Bool.{cond_both}
+-- The lanes of lines, as messages come and go: each has the numbers of its line's messages.
+use Rattle.std.proofs.Common.{◌≡◌, ◌≢◌, ◌==◌, ℕ, ◌+◌, ◌-◌, ◌<◌, ◌≤◌, ◌^◌, max, Bool, true, false, not, Option, None, Some, List, [], ◌∷◌, ◌++◌, length, cond, is_err, Result, Ok, Err, OnOk, insert, take, drop, refl, sym, ap, subst, ◌∙◌, ⊎_elim, length-append, map, arith}
+use Rattle.std.proofs.lemmas.List.{length-map, map-append}
+use Rattle.std.proofs.lemmas.Bool.{cases_eq}
 use Rattle.std.proofs.lemmas.Bool.Decides.{nat_tests}
-use Rattle.std.proofs.lemmas.Map.Lookups.{exact_unsigned}
-use Rattle.std.proofs.lemmas.Map.Views.{tells_apart}
-use Rattle.std.proofs.lemmas.List.Elements.{All-cons, All-pop, All-weaker, filter_passes}
+use Rattle.std.proofs.lemmas.List.Elements.{All-filter, All-map, All-pop, All-weaker, filter-append, filter_passes}
+use Rattle.std.proofs.lemmas.List.Filters.{length-filter_both}
 use Rattle.std.proofs.lemmas.List.Kept.{AllPairs-filter}
-use Rattle.std.specs.List.{All, filter, insert}
+use Rattle.std.specs.List.{All, AllPairs, filter}
+use Rattle.std.specs.Option.{IfSome}
 use Rattle.std.specs.Ordering.{nat_cmp, eq_by_cmp}
 use Rattle.std.specs.Cmp.{nat_cmp_total, unsigned_tied}
 use Rattle.std.specs.FinMap as map
-use Rattle.std.specs.declared.vec.Vec.{Vec}
-use Rattle.std.specs.declared.alloc.Global.{Global}
 use Rattle.ruby_value.specs.declared.message.Message.{Message}
-use Rattle.ruby_value.specs.Prelude.{IsBefore}
-use Rattle.ruby_value.proofs.Ordered.{AllPairs-nil}
+use Rattle.ruby_value.specs.declared.message.MsgNo.{MsgNo}
+use Rattle.ruby_value.specs.Prelude.{IsBefore, inserted, number_before}
 use Rattle.stall_map.specs.declared.lane.Lane.{Lane}
+use Rattle.stall_map.specs.declared.slots.Slot.{Slot}
 use Rattle.stall_map.specs.declared.stalled.Stalled.{Stalled}
-use Rattle.stall_map.specs.Prelude.{Holds, IsPrepared, IsWide, Serves, ServesAll, count_of, Ascends, is_under, without_line}
-use Rattle.stall_map.proofs.Placed.{filter-all, filter-none}
+use Rattle.stall_map.specs.Prelude.{Ascends, IsNew, IsOrder, IsPrepared, IsReady, IsSplit, IsWide, SameWaiting, Serves, ServesAll, is_under, messages_of, messages_under, numbers_of, numbers_under, waiting_of, without_line}
+use Rattle.stall_map.proofs.Edits.{AllPairs-image}
+use Rattle.stall_map.proofs.Numbers.{before-is, not-back}
+use Rattle.stall_map.proofs.Orders.{backs, fronts, order-with, parts, waiting-between}
+use Rattle.stall_map.proofs.Placed.{between, filter-none}
 
-cond-length : {X : Type 0} (b : Bool) (x : X) (xs : List X) → length (cond b (x ∷ xs) xs) ≡ length xs + cond b 1 0
-cond-length true x xs = omega arith
-cond-length false x xs = omega arith
-
--- how many pass a test, with one more
-pub count-placed : {X : Type 0} (p : X → Bool) (s : X) (xs : List X) (at : ℕ) → length (filter p (insert xs at s)) ≡ length (filter p xs) + cond (p s) 1 0
-count-placed p s [] zero = cond-length (p s) s []
-count-placed p s [] (suc at) = cond-length (p s) s []
-count-placed p s (x ∷ xs) zero = cond-length (p s) s (filter p (x ∷ xs))
-count-placed p s (x ∷ xs) (suc at) =
-    omega (arith, cond-length (p x) x (filter p (insert xs at s)), cond-length (p x) x (filter p xs), count-placed p s xs at)
-
-pub no-more : {X : Type 0} (p : X → Bool) (xs : List X) → length (filter p xs) ≤ length xs
-no-more p [] = omega arith
-no-more p (x ∷ xs) = by (p x) (no-more p xs)
+-- lookups of lines
+same-key : (a b : ℕ) → a ≡ b → eq_by_cmp nat_cmp a b ≡ true
+same-key a b is = unsigned_tied a b ∙ tests a b is
   where
-    by : (b : Bool) → length (filter p xs) ≤ length xs → length (cond b (x ∷ filter p xs) (filter p xs)) ≤ length (x ∷ xs)
-    by true le = omega arith
-    by false le = omega arith
+    tests : (a b : ℕ) → a ≡ b → (a == b) ≡ true
+    tests a b is = grind (arith, nat_tests)
 
--- a test passes no more of those that pass another
-fewer : {X : Type 0} (p q : X → Bool) (xs : List X) → length (filter p (filter q xs)) ≤ length (filter p xs)
-fewer p q [] = omega arith
-fewer p q (x ∷ xs) = by (q x) (p x) (fewer p q xs)
+other-key : (a b : ℕ) → a ≢ b → eq_by_cmp nat_cmp a b ≡ false
+other-key a b is = unsigned_tied a b ∙ tests a b is
   where
-    by : (b d : Bool) → length (filter p (filter q xs)) ≤ length (filter p xs) → length (filter p (cond b (x ∷ filter q xs) (filter q xs))) ≤ length (cond (p x) (x ∷ filter p xs) (filter p xs))
-    by true d le = omega (arith, cond-length (p x) x (filter p (filter q xs)), cond-length (p x) x (filter p xs))
-    by false d le = omega (arith, cond-length (p x) x (filter p xs))
+    tests : (a b : ℕ) → a ≢ b → (a == b) ≡ false
+    tests a b is = grind (arith, nat_tests)
 
-pub serves-fewer : (more fewer longest : ℕ) (o : Option Lane) → fewer ≤ more → Serves more longest o → Serves fewer longest o
-serves-fewer more fewer longest None le serves = omega arith
-serves-fewer more fewer longest (Some lane) le serves =
-    record { empty = serves.empty; counted = omega (arith, serves.counted); bound = serves.bound; enough = serves.enough }
+module _ (lanes : map.FinMap nat_cmp Lane) (line : ℕ) where
+  pub gone-here : map.get (map.remove lanes line) line ≡ None
+  gone-here = map.get-remove nat_cmp_total lanes line line ∙ ap (λ b. cond b None (map.get lanes line)) (same-key line line refl)
 
-serves-longer : (need short long : ℕ) (o : Option Lane) → short ≤ long → Serves need short o → Serves need long o
-serves-longer need short long None le serves = serves
-serves-longer need short long (Some lane) le serves =
-    record { empty = serves.empty; counted = serves.counted; bound = omega (arith, serves.bound); enough = serves.enough }
+  pub gone-there : (q : ℕ) → q ≢ line → map.get (map.remove lanes line) q ≡ map.get lanes q
+  gone-there q differs = map.get-remove nat_cmp_total lanes line q ∙ ap (λ b. cond b None (map.get lanes q)) (other-key q line differs)
 
-pub serves-new : ServesAll [] 0 map.empty
-serves-new line = subst (Serves 0 0) (sym (map.get-empty nat_cmp line)) (omega arith)
+  pub put-here : (lane : Lane) → map.get (map.insert lanes line lane) line ≡ Some lane
+  put-here lane = map.get-insert nat_cmp_total lanes line lane line ∙ ap (λ b. cond b (Some lane) (map.get lanes line)) (same-key line line refl)
 
--- the count of a line is within the bound
-pub count-bound : (need longest : ℕ) (o : Option Lane) → Serves need longest o → count_of o ≤ longest
-count-bound need longest None serves = omega arith
-count-bound need longest (Some lane) serves = serves.bound
+  pub put-there : (lane : Lane) (q : ℕ) → q ≢ line → map.get (map.insert lanes line lane) q ≡ map.get lanes q
+  put-there lane q differs = map.get-insert nat_cmp_total lanes line lane q ∙ ap (λ b. cond b (Some lane) (map.get lanes q)) (other-key q line differs)
 
-pub need-count : (need longest : ℕ) (o : Option Lane) → Serves need longest o → need ≤ count_of o
-need-count need longest None serves = serves
-need-count need longest (Some lane) serves = serves.counted
+-- the numbers under a line of parts of a list
+is-under : (q : ℕ) (s : Stalled) → s.line ≡ q → is_under q s ≡ true
+is-under q s is = grind (arith, nat_tests)
 
--- no line's list is there
-pub serves-none : (xs : List Stalled) (longest : ℕ) (lanes : map.FinMap nat_cmp Lane) → map.len lanes ≡ 0 → ServesAll xs longest lanes → ServesAll xs 0 lanes
-serves-none xs longest lanes none serves line =
-    let gone : map.get lanes line ≡ None = ap (λ m. map.get m line) (map.empty_of_len lanes none) ∙ map.get-empty nat_cmp line in
-    subst (Serves (length (filter (is_under line) xs)) 0) (sym gone) (subst (Serves (length (filter (is_under line) xs)) longest) gone (serves line))
-
--- a line's list goes, and none of its messages stays
-pub serves-without : (xs : List Stalled) (longest : ℕ) (lanes : map.FinMap nat_cmp Lane) (line : ℕ) → ServesAll xs longest lanes → ServesAll (without_line xs line) longest (map.remove lanes line)
-serves-without xs longest lanes line serves q =
-    rw (map.get-remove nat_cmp_total lanes line q)
-    (cond_both (eq_by_cmp nat_cmp q line) None (map.get lanes q) (Serves (length (filter (is_under q) (without_line xs line))) longest)
-    (λ is. subst (λ l. length (filter (is_under l) (without_line xs line)) ≤ 0) (sym (tells_apart exact_unsigned q line is)) none)
-    (λ _. serves-fewer (length (filter (is_under q) xs)) (length (filter (is_under q) (without_line xs line))) longest (map.get lanes q) (fewer (is_under q) (λ s. not (is_under line s)) xs) (serves q)))
+pub not-under : (q : ℕ) (s : Stalled) → s.line ≢ q → is_under q s ≡ false
+not-under q s is = tests s.line q is
   where
-    fails : (b : Bool) → not b ≡ true → b ≡ false
-    fails true is = absurd (cc is)
-    fails false is = refl
+    tests : (a b : ℕ) → a ≢ b → (a == b) ≡ false
+    tests a b is = grind (arith, nat_tests)
 
-    none : length (filter (is_under line) (without_line xs line)) ≤ 0
-    none =
-        rw (filter-none (is_under line) (without_line xs line)
-        (All-weaker (λ s. not (is_under line s) ≡ true) (λ s. is_under line s ≡ false) (λ s is. fails (is_under line s) is) (without_line xs line)
-        (filter_passes (λ s. not (is_under line s)) xs)))
-        (omega arith)
+pub numbers-append : (q : ℕ) (xs ys : List Stalled) → numbers_under (xs ++ ys) q ≡ numbers_under xs q ++ numbers_under ys q
+numbers-append q xs ys =
+    ap (λ zs. map (λ (m : Message). m.number) (messages_of zs)) (filter-append (is_under q) xs ys)
+    ∙ (ap (map (λ (m : Message). m.number)) (map-append (λ (s : Stalled). s.message) (filter (is_under q) xs) (filter (is_under q) ys))
+    ∙ map-append (λ (m : Message). m.number) (messages_under xs q) (messages_under ys q))
 
-turned-tests : (a b : ℕ) → (a == b) ≡ false → (b == a) ≡ false
-turned-tests a b is = grind (arith, nat_tests, is)
+pub numbers-here : (q : ℕ) (s : Stalled) (xs : List Stalled) → s.line ≡ q → numbers_under (s ∷ xs) q ≡ s.message.number ∷ numbers_under xs q
+numbers-here q s xs is = rw (is-under q s is) refl
 
--- one more message under a line, whose list has one more place from now on
-pub serves-with : (xs : List Stalled) (longest : ℕ) (lanes : map.FinMap nat_cmp Lane) (s : Stalled) (at : ℕ) (lane : Lane)
-    → ServesAll xs longest lanes → lane.count ≡ count_of (map.get lanes s.line) + 1 → lane.places.items ≡ [] → lane.count ≤ vec_capacity lane.places
-    → ServesAll (insert xs at s) (max longest lane.count) (map.insert lanes s.line lane)
-serves-with xs longest lanes s at lane serves counts empty enough q =
-    rw (map.get-insert nat_cmp_total lanes s.line lane q)
-    (cond_both (eq_by_cmp nat_cmp q s.line) (Some lane) (map.get lanes q) (Serves (length (filter (is_under q) (insert xs at s))) (max longest lane.count))
-    (λ is. here q (tells_apart exact_unsigned q s.line is))
-    (λ not. there q not))
-  where
-    here : (l : ℕ) → l ≡ s.line → Holds (length (filter (is_under l) (insert xs at s))) (max longest lane.count) lane
-    here l same = record {
-      empty = empty;
-      counted =
-          subst (λ k. length (filter (is_under k) (insert xs at s)) ≤ lane.count) (sym same)
-          (omega (arith, count-placed (is_under s.line) s xs at, one-more (is_under s.line s), need-count (length (filter (is_under s.line) xs)) longest (map.get lanes s.line) (serves s.line)));
-      bound = omega arith;
-      enough = enough;
-    }
-      where
-        one-more : (b : Bool) → cond b 1 0 ≤ 1
-        one-more true = omega arith
-        one-more false = omega arith
+pub numbers-there : (q : ℕ) (s : Stalled) (xs : List Stalled) → s.line ≢ q → numbers_under (s ∷ xs) q ≡ numbers_under xs q
+numbers-there q s xs differs = rw (not-under q s differs) refl
 
-    there : (l : ℕ) → eq_by_cmp nat_cmp l s.line ≡ false → Serves (length (filter (is_under l) (insert xs at s))) (max longest lane.count) (map.get lanes l)
-    there l differs =
-        serves-longer (length (filter (is_under l) (insert xs at s))) longest (max longest lane.count) (map.get lanes l) (omega arith)
-        (subst (λ n. Serves n longest (map.get lanes l)) (sym (same-count l differs)) (serves l))
-      where
-        same-count : (l : ℕ) → eq_by_cmp nat_cmp l s.line ≡ false → length (filter (is_under l) (insert xs at s)) ≡ length (filter (is_under l) xs)
-        same-count l differs =
-            let other : is_under l s ≡ false = turned-tests l s.line (sym (unsigned_tied l s.line) ∙ differs) in
-            subst (λ b. length (filter (is_under l) (insert xs at s)) ≡ length (filter (is_under l) xs) + cond b 1 0) other (count-placed (is_under l) s xs at) ∙ omega arith
+pub All-numbers : (P : MsgNo → Type 0) (q : ℕ) (xs : List Stalled) → All (λ (s : Stalled). P s.message.number) xs → All P (numbers_under xs q)
+All-numbers P q xs all =
+    All-map P (λ (m : Message). m.number) (messages_under xs q)
+    (All-map (λ (m : Message). P m.number) (λ (s : Stalled). s.message) (filter (is_under q) xs) (All-filter (is_under q) (λ (s : Stalled). P s.message.number) xs all))
 
-gone-under : (line : ℕ) (xs : List Stalled) → length (filter (is_under line) xs) ≤ 0 → All (λ s. not (is_under line s) ≡ true) xs
-gone-under line [] none = λ k d lt. absurd (omega arith)
-gone-under line (x ∷ xs) none = by (is_under line x) refl (λ none. gone-under line xs none)
-  where
-    by : (b : Bool) → is_under line x ≡ b → (length (filter (is_under line) xs) ≤ 0 → All (λ s. not (is_under line s) ≡ true) xs) → All (λ s. not (is_under line s) ≡ true) (x ∷ xs)
-    by true is rest = let some : length (filter (is_under line) (x ∷ xs)) ≡ length (filter (is_under line) xs) + 1 = rw is (omega arith) in absurd (omega (arith, some, none))
-    by false is rest =
-        let fewer : length (filter (is_under line) (x ∷ xs)) ≡ length (filter (is_under line) xs) = rw is refl in
-        All-cons (λ s. not (is_under line s) ≡ true) x xs (ap not is) (rest (omega (arith, fewer, none)))
-
--- a line without a list has no messages
-pub nothing-under : (xs : List Stalled) (line : ℕ) → length (filter (is_under line) xs) ≤ 0 → without_line xs line ≡ xs
-nothing-under xs line none = filter-all (λ s. not (is_under line s)) xs (gone-under line xs none)
-
--- the parts still serve where no message waits any more
-pub prepared-none : (xs : List Stalled) (entries : ℕ) (lanes : map.FinMap nat_cmp Lane) (lines : ℕ) (pool : List (Vec Message Global)) (longest room : ℕ)
-    → IsPrepared xs entries lanes lines pool longest room → IsPrepared [] entries lanes lines pool longest room
-prepared-none xs entries lanes lines pool longest room is = record {
-  ascends = AllPairs-nil (λ (a b : Stalled). IsBefore a.message.number b.message.number);
-  serves = λ line. serves-fewer (length (filter (is_under line) xs)) 0 longest (map.get lanes line) (omega arith) (is.serves line);
-  entries_left = is.entries_left;
-  lines_left = is.lines_left;
-  lists_left = is.lists_left;
-  wide = is.wide;
-}
-
--- nor where a line's list goes with its messages
-pub prepared-without : (xs : List Stalled) (line entries more : ℕ) (lanes : map.FinMap nat_cmp Lane) (lines left : ℕ) (pool : List (Vec Message Global)) (longest room : ℕ)
-    → entries ≤ more → lines ≤ left → IsPrepared xs entries lanes lines pool longest room
-    → IsPrepared (without_line xs line) more (map.remove lanes line) left pool longest room
-prepared-without xs line entries more lanes lines left pool longest room le less is = record {
-  ascends = AllPairs-filter (λ (a b : Stalled). IsBefore a.message.number b.message.number) (λ s. not (is_under line s)) xs is.ascends;
-  serves = serves-without xs longest lanes line is.serves;
-  entries_left = omega (arith, is.entries_left);
-  lines_left = omega (arith, is.lines_left);
-  lists_left = is.lists_left;
-  wide = is.wide;
-}
-
--- where there is a place for one more, and the last of the empty lists is taken for its line
-pub prepared-with : (xs : List Stalled) (s : Stalled) (at entries left : ℕ) (lanes : map.FinMap nat_cmp Lane) (lines more : ℕ) (pool rest : List (Vec Message Global)) (lane : Lane) (longest room : ℕ)
-    → IsPrepared xs entries lanes lines pool longest room → 0 < room → Ascends (insert xs at s)
-    → entries ≤ left + 1 → lines ≤ more + 1 → pool ≡ rest ++ lane.places ∷ [] → lane.count ≡ count_of (map.get lanes s.line) + 1
-    → IsPrepared (insert xs at s) left (map.insert lanes s.line lane) more rest (max longest lane.count) (room - 1)
-prepared-with xs s at entries left lanes lines more pool rest lane longest room is positive ascends le less taken counts =
-    let split = All-pop (IsWide (longest + room)) pool rest (Some lane.places) taken (is.wide positive) in
-    let bound : count_of (map.get lanes s.line) ≤ longest = count-bound (length (filter (is_under s.line) xs)) longest (map.get lanes s.line) (is.serves s.line) in
-    record {
-      ascends = ascends;
-      serves = serves-with xs longest lanes s at lane is.serves counts split.1.empty (omega (arith, split.1.enough, bound, counts));
-      entries_left = omega (arith, is.entries_left);
-      lines_left = omega (arith, is.lines_left);
-      lists_left = omega (arith, is.lists_left, ap length taken, length-append rest (lane.places ∷ []));
-      wide = λ more_left. All-weaker (IsWide (longest + room)) (IsWide (max longest lane.count + (room - 1)))
-          (λ v wide. record { empty = wide.empty; enough = omega (arith, wide.enough, bound, counts) }) rest split.0;
-    }
+pub numbers-ascend : (q : ℕ) (xs : List Stalled) → Ascends xs → AllPairs IsBefore (numbers_under xs q)
+numbers-ascend q xs ascending =
+    AllPairs-image IsBefore (λ (m : Message). m.number) (messages_under xs q)
+    (AllPairs-image (λ (a b : Message). IsBefore a.number b.number) (λ (s : Stalled). s.message) (filter (is_under q) xs)
+    (AllPairs-filter (λ (a b : Stalled). IsBefore a.message.number b.message.number) (is_under q) xs ascending))
 
 pub ok-holds : {A E P : Type 0} (r : Result A E) → is_err r ≡ false → OnOk r P → P
 ok-holds (Ok a) fine holds = holds
 ok-holds (Err e) fine holds = absurd (cc fine)
+
+serves-longer : (numbers : List MsgNo) (short long : ℕ) (o : Option Lane) → short ≤ long → Serves numbers short o → Serves numbers long o
+serves-longer numbers short long o le serves = record { known = serves.known; bound = omega (arith, serves.bound); ready = serves.ready }
+
+-- one more message
+module _ (slots : List Slot) (number : MsgNo) (at : ℕ) (s : Stalled) (slot : Slot) (lanes after : map.FinMap nat_cmp Lane) (longest count : ℕ)
+    (order : IsOrder slots) (split : IsSplit (λ (s : Slot). s.number) number slots at) (new : IsNew (waiting_of slots) number)
+    (slot_number : slot.number ≡ number) (held : slot.held ≡ Some s) (named : s.message.number ≡ number)
+    (serves : ServesAll (waiting_of slots) longest lanes)
+    (numbers : numbers_of (map.get after s.line) ≡ inserted number_before (numbers_of (map.get lanes s.line)) number)
+    (ready : IfSome (map.get after s.line) IsReady)
+    (others : (q : ℕ) → q ≢ s.line → map.get after q ≡ map.get lanes q)
+    (counts : count ≡ length (numbers_of (map.get after s.line))) where
+  abbrev front : List Stalled
+  front = waiting_of (take at slots)
+
+  abbrev back : List Stalled
+  back = waiting_of (drop at slots)
+
+  abbrev line : ℕ
+  line = s.line
+
+  whole : waiting_of slots ≡ front ++ back
+  whole = parts slots number at order split new
+
+  with : waiting_of (insert slots at slot) ≡ front ++ s ∷ back
+  with = waiting-between slots number at order split new slot s held
+
+  before-number : All (λ n. IsBefore n number) (numbers_under front line)
+  before-number =
+      All-numbers (λ n. IsBefore n number) line front
+      (All-weaker (λ (h : Stalled). IsBefore h.message.number s.message.number) (λ h. IsBefore h.message.number number) (λ h is. subst (IsBefore h.message.number) named is) front
+      (fronts slots number at order split new s named))
+
+  after-number : All (IsBefore number) (numbers_under back line)
+  after-number =
+      All-numbers (IsBefore number) line back
+      (All-weaker (λ (h : Stalled). IsBefore s.message.number h.message.number) (λ h. IsBefore number h.message.number) (λ h is. subst (λ (n : MsgNo). IsBefore n h.message.number) named is) back
+      (backs slots number at order split new s named))
+
+  here-now : numbers_under (waiting_of (insert slots at slot)) line ≡ numbers_under front line ++ number ∷ numbers_under back line
+  here-now =
+      ap (λ ws. numbers_under ws line) with
+      ∙ (numbers-append line front (s ∷ back)
+      ∙ ap (λ ns. numbers_under front line ++ ns) (numbers-here line s back refl ∙ ap (λ (n : MsgNo). n ∷ numbers_under back line) named))
+
+  pub here : numbers_of (map.get after line) ≡ numbers_under (waiting_of (insert slots at slot)) line
+  here =
+      numbers
+      ∙ (ap (λ ns. inserted number_before ns number) ((serves line).known ∙ (ap (λ ws. numbers_under ws line) whole ∙ numbers-append line front back))
+      ∙ (sym (between number_before number (numbers_under front line) (numbers_under back line)
+      (All-weaker (λ n. IsBefore n number) (λ n. number_before n number ≡ true) (λ n. before-is n number) (numbers_under front line) before-number)
+      (All-weaker (λ n. IsBefore n number) (λ n. number_before number n ≡ false) (λ n. not-back n number) (numbers_under front line) before-number)
+      (All-weaker (IsBefore number) (λ n. number_before n number ≡ false) (λ n. not-back number n) (numbers_under back line) after-number)
+      (All-weaker (IsBefore number) (λ n. number_before number n ≡ true) (λ n. before-is number n) (numbers_under back line) after-number))
+      ∙ sym here-now))
+
+  there : (q : ℕ) → q ≢ line → numbers_under (waiting_of (insert slots at slot)) q ≡ numbers_under (waiting_of slots) q
+  there q differs =
+      ap (λ ws. numbers_under ws q) with
+      ∙ (numbers-append q front (s ∷ back)
+      ∙ (ap (λ ns. numbers_under front q ++ ns) (numbers-there q s back (λ is. differs (sym is)))
+      ∙ (sym (numbers-append q front back) ∙ sym (ap (λ ws. numbers_under ws q) whole))))
+
+  pub serves-with : ServesAll (waiting_of (insert slots at slot)) (max longest count) after
+  serves-with q =
+      ⊎_elim
+      (λ is.
+      subst (λ l. Serves (numbers_under (waiting_of (insert slots at slot)) l) (max longest count) (map.get after l)) (sym is)
+      (record { known = here; bound = omega (arith, counts, ap length here); ready = ready }))
+      (λ differs.
+      rw (there q differs, others q differs)
+      (serves-longer (numbers_under (waiting_of slots) q) longest (max longest count) (map.get lanes q) (omega arith) (serves q)))
+      (cases_eq q line)
+
+  pub one-more : length (waiting_of (insert slots at slot)) ≡ length (waiting_of slots) + 1
+  one-more = omega (arith, ap length with, ap length whole, length-append front (s ∷ back), length-append front back)
+
+  pub longer : count ≤ longest + 1
+  longer =
+      omega (
+        arith,
+        counts,
+        ap length (here ∙ here-now),
+        length-append (numbers_under front line) (number ∷ numbers_under back line),
+        ap length (ap (λ ws. numbers_under ws line) whole ∙ numbers-append line front back),
+        length-append (numbers_under front line) (numbers_under back line),
+        (serves line).bound,
+      )
+
+-- the parts with one more message, for which the last of the empty lanes was there
+pub prepared-with : (slots : List Slot) (number : MsgNo) (at : ℕ) (s : Stalled) (slot : Slot) (entries left waiting : ℕ) (lanes after : map.FinMap nat_cmp Lane) (lines more : ℕ)
+    (pool rest : List Lane) (empty : Lane) (longest count room : ℕ)
+    → IsPrepared slots entries waiting lanes lines pool longest room → 0 < room
+    → IsSplit (λ (s : Slot). s.number) number slots at → IsNew (waiting_of slots) number → slot.number ≡ number → slot.held ≡ Some s → s.message.number ≡ number
+    → numbers_of (map.get after s.line) ≡ inserted number_before (numbers_of (map.get lanes s.line)) number → IfSome (map.get after s.line) IsReady
+    → ((q : ℕ) → q ≢ s.line → map.get after q ≡ map.get lanes q) → count ≡ length (numbers_of (map.get after s.line)) → count < 2 ^ 63
+    → entries ≤ left + 1 → lines ≤ more + 1 → pool ≡ rest ++ empty ∷ []
+    → IsPrepared (insert slots at slot) left (waiting + 1) after more rest (max longest count) (room - 1)
+prepared-with slots number at s slot entries left waiting lanes after lines more pool rest empty longest count room is positive split new slot_number held named numbers ready others counts small le less taken =
+    let bound : count ≤ longest + 1 = longer slots number at s slot lanes after longest count is.order split new slot_number held named is.serves numbers ready others counts in
+    record {
+      order = order-with slots number at is.order split new slot s slot_number held named;
+      count = omega (arith, is.count, one-more slots number at s slot lanes after longest count is.order split new slot_number held named is.serves numbers ready others counts);
+      serves = serves-with slots number at s slot lanes after longest count is.order split new slot_number held named is.serves numbers ready others counts;
+      small = omega (arith, is.small);
+      entries_left = omega (arith, is.entries_left);
+      lines_left = omega (arith, is.lines_left);
+      lanes_left = omega (arith, is.lanes_left, ap length taken, length-append rest (empty ∷ []));
+      wide = λ more_left. All-weaker (IsWide (longest + room)) (IsWide (max longest count + (room - 1)))
+          (λ v wide. record { empty = wide.empty; no_message = wide.no_message; numbers_fit = omega (arith, wide.numbers_fit, bound); messages_fit = omega (arith, wide.messages_fit, bound) })
+          rest (All-pop (IsWide (longest + room)) pool rest (Some empty) taken (is.wide positive)).0;
+    }
+
+-- a line's lane goes, and its messages
+module _ (xs : List Stalled) (line : ℕ) where
+  fails : (b : Bool) → not b ≡ true → b ≡ false
+  fails true is = absurd (cc is)
+  fails false is = refl
+
+  pub none-left : numbers_under (without_line xs line) line ≡ []
+  none-left =
+      ap (λ ys. map (λ (m : Message). m.number) (messages_of ys))
+      (filter-none (is_under line) (without_line xs line)
+      (All-weaker (λ s. not (is_under line s) ≡ true) (λ s. is_under line s ≡ false) (λ s is. fails (is_under line s) is) (without_line xs line)
+      (filter_passes (λ s. not (is_under line s)) xs)))
+
+  others-stay : (q : ℕ) → q ≢ line → numbers_under (without_line xs line) q ≡ numbers_under xs q
+  others-stay q differs = ap (λ ys. map (λ (m : Message). m.number) (messages_of ys)) (kept xs)
+    where
+      kept : (ys : List Stalled) → filter (is_under q) (without_line ys line) ≡ filter (is_under q) ys
+      kept [] = refl
+      kept (y ∷ ys) = by (is_under line y) refl (kept ys)
+        where
+          other : y.line ≡ line → is_under q y ≡ false
+          other is = not-under q y (λ same. differs (sym same ∙ is))
+
+          line-is : is_under line y ≡ true → y.line ≡ line
+          line-is is = grind (arith, nat_tests, is)
+
+          by : (b : Bool) → is_under line y ≡ b → filter (is_under q) (without_line ys line) ≡ filter (is_under q) ys → filter (is_under q) (without_line (y ∷ ys) line) ≡ filter (is_under q) (y ∷ ys)
+          by true is rest = rw (is, other (line-is is)) rest
+          by false is rest = rw is (ap (λ zs. cond (is_under q y) (y ∷ zs) zs) rest)
+
+  pub fewer : length (without_line xs line) + length (numbers_under xs line) ≡ length xs
+  fewer =
+      omega (
+        arith,
+        length-filter_both (is_under line) (λ s. not (is_under line s)) (λ s. refl) xs,
+        length-map (filter (is_under line) xs) (λ (s : Stalled). s.message),
+        length-map (messages_under xs line) (λ (m : Message). m.number),
+      )
+
+  pub serves-without : (longest : ℕ) (lanes : map.FinMap nat_cmp Lane) → ServesAll xs longest lanes → ServesAll (without_line xs line) longest (map.remove lanes line)
+  serves-without longest lanes serves q =
+      ⊎_elim
+      (λ is.
+      subst (λ l. Serves (numbers_under (without_line xs line) l) longest (map.get (map.remove lanes line) l)) (sym is)
+      (rw (gone-here lanes line, none-left) (record { known = refl; bound = omega arith; ready = tt })))
+      (λ differs. rw (gone-there lanes line q differs, others-stay q differs) (serves q))
+      (cases_eq q line)
+
+  -- a line without numbers has no messages
+  pub none-under : numbers_under xs line ≡ [] → (messages_under xs line ≡ []) × (without_line xs line ≡ xs)
+  none-under none = (empty (messages_under xs line) none, all xs (under (filter (is_under line) xs) none))
+    where
+      empty : (ms : List Message) → map (λ (m : Message). m.number) ms ≡ [] → ms ≡ []
+      empty [] is = refl
+      empty (m ∷ ms) is = absurd (cc is)
+
+      under : (ys : List Stalled) → map (λ (m : Message). m.number) (messages_of ys) ≡ [] → ys ≡ []
+      under [] is = refl
+      under (y ∷ ys) is = absurd (cc is)
+
+      all : (ys : List Stalled) → filter (is_under line) ys ≡ [] → without_line ys line ≡ ys
+      all [] is = refl
+      all (y ∷ ys) is = by (is_under line y) refl (all ys)
+        where
+          by : (b : Bool) → is_under line y ≡ b → (filter (is_under line) ys ≡ [] → without_line ys line ≡ ys) → without_line (y ∷ ys) line ≡ y ∷ ys
+          by true under rest = let some : y ∷ filter (is_under line) ys ≡ [] = rw under at is in absurd (cc some)
+          by false under rest = let none : filter (is_under line) ys ≡ [] = rw under at is in rw under (ap (λ zs. y ∷ zs) (rest none))
+
+-- the parts where a line's messages were taken out
+pub prepared-without : (slots mid left : List Slot) (line entries more waiting : ℕ) (numbers : List MsgNo) (lanes : map.FinMap nat_cmp Lane) (lines lines_more : ℕ) (pool : List Lane) (longest room : ℕ)
+    → IsPrepared slots entries waiting lanes lines pool longest room → entries ≤ more → lines ≤ lines_more
+    → numbers ≡ numbers_under (waiting_of slots) line → waiting_of mid ≡ without_line (waiting_of slots) line → SameWaiting mid left
+    → IsPrepared left more (waiting - length numbers) (map.remove lanes line) lines_more pool longest room
+prepared-without slots mid left line entries more waiting numbers lanes lines lines_more pool longest room is le less known out same =
+    let now : waiting_of left ≡ without_line (waiting_of slots) line = same.same ∙ out in
+    record {
+      order = same.order;
+      count = omega (arith, is.count, ap length now, ap length known, fewer (waiting_of slots) line);
+      serves = rw now (serves-without (waiting_of slots) line longest lanes is.serves);
+      small = is.small;
+      entries_left = omega (arith, is.entries_left);
+      lines_left = omega (arith, is.lines_left);
+      lanes_left = is.lanes_left;
+      wide = is.wide;
+    }

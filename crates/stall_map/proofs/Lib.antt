@@ -1,4 +1,6 @@
+mod Edits
 mod Lanes
-mod Numbered
-mod Parted
+mod Numbers
+mod Orders
 pub mod Placed
+mod Woken

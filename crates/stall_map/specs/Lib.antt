@@ -1,3 +1,4 @@
 pub mod Prepared
+pub mod Slots
 pub mod Stalls
 pub mod Prelude

@@ -1,6 +1,6 @@
 -- The messages that wait under lines, as the list in which their numbers ascend, each with its line. A message keeps its
 -- arrival and its number while it waits, and woken ones come in increasing number; both are this project's own.
-use Rattle.std.specs.Prelude.{◌≡◌, ◌≢◌, ℕ, Bool, true, Option, None, Some, List, ◌==◌, not, insert, map, slice_get}
+use Rattle.std.specs.Prelude.{◌≢◌, ℕ, Bool, true, Option, None, Some, List, ◌==◌, not, map, slice_get}
 use Rattle.std.specs.List.{All, AllPairs, filter}
 use Rattle.ruby_value.specs.declared.message.Message.{Message}
 use Rattle.ruby_value.specs.declared.message.MsgNo.{MsgNo}
@@ -21,11 +21,6 @@ IsNew stalled number = All (λ o. o.message.number ≢ number) stalled
 abbrev pub with_stalled : List Stalled → ℕ → Message → List Stalled
 with_stalled stalled line m = inserted comes_before stalled (record { line = line; message = m })
 
--- the place at which a message of a number goes into the list
-abbrev pub IsPlaceOf : List Stalled → MsgNo → ℕ → Type 0
-IsPlaceOf stalled number at =
-    (s : Stalled) → s.message.number ≡ number → insert stalled at s ≡ with_stalled stalled s.line s.message
-
 abbrev pub is_under : ℕ → Stalled → Bool
 is_under line s = s.line == line
 
@@ -34,6 +29,10 @@ messages_of stalled = map (λ (s : Stalled). s.message) stalled
 
 abbrev pub messages_under : List Stalled → ℕ → List Message
 messages_under stalled line = messages_of (filter (is_under line) stalled)
+
+-- their numbers, in increasing order
+abbrev pub numbers_under : List Stalled → ℕ → List MsgNo
+numbers_under stalled line = map (λ (m : Message). m.number) (messages_under stalled line)
 
 -- the others
 abbrev pub without_line : List Stalled → ℕ → List Stalled

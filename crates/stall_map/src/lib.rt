@@ -2,7 +2,7 @@
 #![tactic(auto)]
 
 mod lane;
-mod order;
+mod slots;
 mod stalled;
 mod waiting;
 

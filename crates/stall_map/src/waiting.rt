@@ -3,10 +3,10 @@ ghost use Rattle.std.specs.List.{find};
 ghost use Rattle.std.specs.Option.{option_copied, option_map};
 ghost use Rattle.ruby_value.specs.Prelude.{same_number};
 ghost use Rattle.stall_map.specs.declared.stalled.Stalled.{Stalled};
-ghost use Rattle.stall_map.specs.Stalls.{Ascends, IsNew, messages_of, messages_under, next_after, with_stalled, without_line};
+ghost use Rattle.stall_map.specs.Stalls.{Ascends, IsNew, messages_of, messages_under, next_after, numbers_under, with_stalled, without_line};
 
-use crate::lane::{Lane, count_one_more, empty_lists};
-use crate::order::{moved_out, place_of};
+use crate::lane::{Lane, add_number, drop_lane, empty_lanes};
+use crate::slots::{Slot, count_up_to, drop_empty, find, first_from, held_at, moved_out};
 use crate::{Message, MsgNo, NoMemory, Seq, Stalled};
 use ruby_value::LineMap;
 use std::alloc::Global;
@@ -14,14 +14,15 @@ use std::collections::VecDeque;
 use std::marker::Model;
 
 /// The messages that wait under lines. A contract sees the list of them, each with its line, in which their numbers ascend, and
-/// beside it for how many more there is room. For each line an empty list is kept with places for its messages, so that waking
-/// takes no memory.
+/// beside it for how many more there is room. For each line the numbers of its messages are kept, with places for them, so that
+/// waking takes no memory and costs what waits under the line.
 #[derive(Drop)]
 pub struct StallMap {
     alloc: Global,
-    stalled: VecDeque<Stalled>,
+    slots: VecDeque<Slot>,
+    waiting: usize,
     lanes: LineMap<Lane>,
-    pool: Vec<Vec<Message>>,
+    pool: Vec<Lane>,
     longest: usize,
     room: usize,
 }
@@ -33,15 +34,16 @@ impl Model for StallMap {
     ghost use Rattle.ruby_value.specs.Prelude.{Roomy, roomy_code};
     ghost use Rattle.stall_map.specs.declared.stalled.Stalled.{Stalled};
     ghost use Rattle.stall_map.specs.contracts.stalled.Stalled as row;
+    ghost use Rattle.stall_map.specs.Slots.{waiting_of};
     ghost use Rattle.stall_map.specs.Prepared.{IsPrepared};
 
     ghost Value = { Roomy (List Stalled) };
 
     ghost coded = { roomy_code (coded_list row.the_row.coded) };
 
-    ghost view = { λ w. record { kept = w.stalled.items; room = w.room } };
+    ghost view = { λ w. record { kept = waiting_of w.slots.items; room = w.room } };
 
-    ghost invariant = { λ w. IsPrepared w.stalled.items (deque_capacity w.stalled - deque_len w.stalled) w.lanes.kept w.lanes.room w.pool.items w.longest w.room };
+    ghost invariant = { λ w. IsPrepared w.slots.items (deque_capacity w.slots - deque_len w.slots) w.waiting w.lanes.kept w.lanes.room w.pool.items w.longest w.room };
 }
 
 impl StallMap {
@@ -51,7 +53,8 @@ impl StallMap {
     {
         StallMap {
             alloc,
-            stalled: VecDeque::new(alloc),
+            slots: VecDeque::new(alloc),
+            waiting: 0,
             lanes: LineMap::new(alloc),
             pool: Vec::new(alloc),
             longest: 0,
@@ -65,7 +68,7 @@ impl StallMap {
         ensures order { Ascends self.now.kept }
         ensures small { result < 2 ^ 63 }
     {
-        self.stalled.len()
+        self.waiting
     }
 
     /// The message at a place, in the order of numbers, with its line.
@@ -73,21 +76,21 @@ impl StallMap {
         requires { place < length self.now.kept }
         ensures { slice_get self.now.kept place ≡ Some result.now }
     {
-        &self.stalled[place]
+        held_at(&self.slots, place)
     }
 
     /// Whether no message has this number.
     pub fn is_new(&self, number: MsgNo) -> bool
         ensures { IsTrue result ↔ IsNew self.now.kept number }
     {
-        !self.stalled.iter().any(|s| s.message.number == number)
+        find(&self.slots, number).is_none()
     }
 
     /// The message of this number, with its line, or `None` exactly where there is none.
     pub fn find(&self, number: MsgNo) -> Option<&Stalled>
         ensures { option_copied result ≡ find (λ (s : Stalled). same_number s.message.number number) self.now.kept }
     {
-        self.stalled.iter().find(|s| s.message.number == number)
+        find(&self.slots, number)
     }
 
     /// Makes room for so many more messages, under whatever lines, or answers that there is no memory for them. The messages
@@ -100,17 +103,10 @@ impl StallMap {
         if more <= self.room {
             return Ok(());
         }
-        let longest = if self.lanes.len() == 0 {
-            0
-        } else {
-            self.longest
-        };
-        let Some(places) = longest.checked_add(more) else {
-            return Err(NoMemory);
-        };
-        self.stalled.reserve(more)?;
+        self.slots.reserve(more)?;
         self.lanes.reserve(more)?;
-        self.pool = empty_lists(self.alloc, more, places)?;
+        let longest = if self.waiting == 0 { 0 } else { self.longest };
+        self.pool = empty_lanes(self.alloc, more, 2 * longest.max(more))?;
         self.longest = longest;
         self.room = more;
         Ok(())
@@ -123,18 +119,17 @@ impl StallMap {
         ensures after { self.new.kept ≡ with_stalled self.old.kept line m }
         ensures room { self.old.room ≤ self.new.room + 1 }
     {
-        let at = place_of(&self.stalled, m.number);
-        let Some(places) = self.pool.pop() else {
+        let number = m.number;
+        let at = count_up_to(&self.slots, number);
+        let Some(empty) = self.pool.pop() else {
             unreachable!()
         };
-        let count = count_one_more(&mut self.lanes, line, places);
+        let count = add_number(&mut self.lanes, line, number, empty);
         self.longest = self.longest.max(count);
         self.room -= 1;
-        if self
-            .stalled
-            .insert(at, Stalled { line, message: m })
-            .is_err()
-        {
+        self.waiting += 1;
+        let held = Some(Stalled { line, message: m });
+        if self.slots.insert(at, Slot { number, held }).is_err() {
             unreachable!()
         }
     }
@@ -163,9 +158,23 @@ impl StallMap {
         ensures others { self.new.kept ≡ without_line self.old.kept line }
         ensures room { self.old.room ≤ self.new.room }
     {
-        match self.lanes.remove(line) {
-            Some(lane) => Seq::of(moved_out(&mut self.stalled, line, lane.places)),
-            None => Seq::new(self.alloc),
+        let Some(lane) = self.lanes.remove(line) else {
+            return Seq::new(self.alloc);
+        };
+        let Lane { numbers, places } = lane;
+        let woken = moved_out(&mut self.slots, &numbers, places);
+        self.waiting -= numbers.len();
+        drop_empty(&mut self.slots, self.waiting);
+        Seq::of(woken)
+    }
+
+    /// The numbers of the messages that wait under the line, in increasing order.
+    pub fn under(&self, line: u64) -> &[MsgNo]
+        ensures { result.now ≡ numbers_under self.now.kept line }
+    {
+        match self.lanes.get(line) {
+            Some(lane) => &lane.numbers,
+            None => &[],
         }
     }
 
@@ -177,11 +186,14 @@ impl StallMap {
         ensures refused { OnErr result (self.new.kept ≡ self.old.kept) }
         ensures room { self.old.room ≤ self.new.room }
     {
-        let mut all = Vec::with_capacity(self.alloc, self.stalled.len())?;
-        while let Some(s) = self.stalled.pop_front() {
-            let _lane = self.lanes.remove(s.line);
-            all.push_reserved(s.message);
+        let mut all = Vec::with_capacity(self.alloc, self.waiting)?;
+        while let Some(slot) = self.slots.pop_front() {
+            if let Some(s) = slot.held {
+                drop_lane(&mut self.lanes, s.line);
+                all.push_reserved(s.message);
+            }
         }
+        self.waiting = 0;
         Ok(Seq::of(all))
     }
 
@@ -190,13 +202,11 @@ impl StallMap {
     pub fn next_after(&self, number: Option<MsgNo>) -> Option<(u64, &Message)>
         ensures { option_map (λ r. record { line = r.0; message = r.1.now }) result ≡ next_after self.now.kept number }
     {
-        let at = match number {
-            Some(n) => self
-                .stalled
-                .partition_point(|s| !n.is_before(s.message.number)),
+        let from = match number {
+            Some(n) => count_up_to(&self.slots, n),
             None => 0,
         };
-        match self.stalled.get(at) {
+        match first_from(&self.slots, from) {
             Some(s) => Some((s.line, &s.message)),
             None => None,
         }

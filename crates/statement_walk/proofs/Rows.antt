@@ -22,7 +22,7 @@ use Rattle.statement_walk.specs.Prelude.{others_of, otherwise_of}
 abbrev pub Doing : Type 0
 Doing = Frame → Acting Ended
 
-statements_held : (statements : List Stmt) → items-the_row-Stmt _ (block.hidden-the_row-Stmt-0 statements) ≡ statements
+pub statements_held : (statements : List Stmt) → items-the_row-Stmt _ (block.hidden-the_row-Stmt-0 statements) ≡ statements
 statements_held statements = search (rules, the_lemmas)
 
 module _ (s : Reading) (calls : Calls) where

@@ -10,7 +10,7 @@ use acts::{Fields, Local, Trouble, Value, front};
 use body_meaning::{Flow, Frame, Scope, Thing, bind};
 use body_walk::{leave, value};
 use plain_walk::{
-    asserted, assigned, declared, evaluated, failed, is_true, port, returned, stalled,
+    asserted, assigned, declared, evaluated, failed, found, is_true, port, returned, stalled,
 };
 use ruby_base::Seq;
 use slicc_ast::tree::{Expr, If, Name, Stmt};
@@ -157,7 +157,7 @@ fn made_and_sent<T: Local, F: Fn(u16, Seq<Value>, &mut T) -> Result<Thing, Troub
     )
 }
 
-// `enqueue(port, .., latency) { statements }`
+// `enqueue(port, .., latency) { statements }`, which stands in actions alone.
 #[cycle(statements)]
 #[tactic(auto, using(acts::proofs::Walk::walk_steps), unfolding(body_meaning::specs::Statements::enqueued))]
 fn enqueued<T: Local, F: Fn(u16, Seq<Value>, &mut T) -> Result<Thing, Trouble>>(
@@ -178,6 +178,7 @@ fn enqueued<T: Local, F: Fn(u16, Seq<Value>, &mut T) -> Result<Thing, Trouble>>(
         written.now (done_in s.entry depth statements.now) frame.old) result (T.view local.old)
         (T.view local.new) }
 {
+    found(frame.about, local)?;
     let buffer = port(s, name, local)?;
     let number = structure(s, buffer, local)?;
     let t = opened(alloc, s, number, local)?;

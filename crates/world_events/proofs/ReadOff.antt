@@ -6,7 +6,7 @@ use Rattle.std.proofs.lemmas.Option.{same_Some, slice_get-map}
 use Rattle.run_journal.specs.declared.entry.Entry.{Entry}
 use Rattle.run_journal.specs.declared.verdict.Verdict.{Verdict}
 use Rattle.ruby_value.specs.Prelude.{has_mark}
-use Rattle.ruby_value.specs.declared.message.Message.{Message}
+use Rattle.ctl_face.specs.declared.parcel.Parcel.{Parcel}
 use Rattle.protocol_runs.specs.Prelude.{Rules, IsRun, Ran, World}
 use Rattle.protocol_runs.specs.World as runs
 use Rattle.ctl_face.specs.Prelude.{Ctl}
@@ -41,7 +41,7 @@ nobody-held (k ∷ places) nobody =
 
 module _ {D : Type 0} (drive : D → List Seat → ℕ → Drive D) (v : WorldView D) (held : Ctl) (st : State D)
     (run : IsRun (rules_in drive v) v.history (world_of held st) v.journal) where
-  abbrev R : Rules Ctl Message D
+  abbrev R : Rules Ctl Parcel D
   R = rules_in drive v
 
   only : (w : World Ctl D) → IsWorldOf drive v w → world_of held st ≡ w

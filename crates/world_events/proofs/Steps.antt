@@ -15,7 +15,7 @@ use Rattle.run_journal.specs.declared.event.Event.TheVariants.{Done, Fire, Relea
 use Rattle.run_journal.specs.declared.verdict.Verdict.{Verdict}
 use Rattle.ruby_value.specs.Prelude.{has_mark}
 use Rattle.ruby_value.specs.declared.message.Delivery.{Delivery}
-use Rattle.ruby_value.specs.declared.message.Message.{Message}
+use Rattle.ctl_face.specs.declared.parcel.Parcel.{Parcel}
 use Rattle.protocol_runs.specs.Prelude.{Ends, Acts, Fired, Rules, IsRun, fired_entry, step, with_controller, World, IsSetting, FitsRun, machine_of, IsMeaning, Meaning, rules, Setting}
 use Rattle.protocol_runs.specs.World as runs
 use Rattle.protocol_runs.proofs.Places.{mapped-from, set-at}
@@ -230,7 +230,7 @@ module _ {D : Type 0} (least : D → ℕ) (drive : D → List Seat → ℕ → D
         let fits = fit old.book.history (world_of facts.held old) old.book.journal facts.kept.run h.controller _ here.place in
         omega (arith, fits.bound, facts.cycles)
 
-    pub fire-scanned : (note : FireNote) (acts : Acts) (copies : List (Delivery Message)) (after : Ctl)
+    pub fire-scanned : (note : FireNote) (acts : Acts) (copies : List (Delivery Parcel)) (after : Ctl)
         → ((rules P drive (Q (opening old.driver))).scan h.controller (ctl_in h) h.cycle).outcome ≡ Fired note acts copies after
         → ((rules P drive (Q (opening old.driver))).scan h.controller (ctl_in h) old.now).outcome ≡ Fired note acts copies after
     fire-scanned note acts copies after scanned =
@@ -307,7 +307,7 @@ module _ {D : Type 0} (least : D → ℕ) (drive : D → List Seat → ℕ → D
           (λ w. w.verdict ≡ None) (same.verdict ∙ now.goes_on)
 
     -- a transition fires
-    module _ (note : FireNote) (acts : Acts) (copies : List (Delivery Message)) (after : Ctl)
+    module _ (note : FireNote) (acts : Acts) (copies : List (Delivery Parcel)) (after : Ctl)
         (scanned : ((rules P drive (Q (opening old.driver))).scan h.controller (ctl_in h) h.cycle).outcome ≡ Fired note acts copies after) where
       module _ (places : (held : Ctl) → places_with held new.places.items ≡ delivered (places_with held old.places.items) copies)
           (made : made_in new.places.items ≡ made_in old.places.items)

@@ -6,7 +6,7 @@ use Rattle.std.specs.List.{list_any}
 use Rattle.std.specs.Option.{option_map_or}
 use Rattle.slicc_ast.specs.contracts.tree.item.Tree as tree
 use Rattle.slicc_ast.specs.declared.tree.item.Tree.{Tree}
-use Rattle.ruby_value.specs.declared.message.Message.{Message}
+use Rattle.ctl_face.specs.declared.parcel.Parcel.{Parcel}
 use Rattle.run_journal.specs.contracts.entry.Entry as entry
 use Rattle.run_journal.specs.contracts.event.Event as event
 use Rattle.run_journal.specs.declared.entry.Entry.{Entry}
@@ -69,7 +69,7 @@ pub record HasAdded {D : Type 0} (old : WorldView D) (e : Event) (new : WorldVie
   pub history : new.history ≡ old.history ++ e ∷ []
 
 module _ {D : Type 0} (drive : D → List Seat → ℕ → Drive D) (v : WorldView D) where
-  abbrev pub rules_in : Rules Ctl Message D
+  abbrev pub rules_in : Rules Ctl Parcel D
   rules_in = rules (meaning_of v.trees) drive (setting_in v)
 
   -- the history leads to this world

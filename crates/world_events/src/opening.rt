@@ -184,10 +184,12 @@ pub(crate) fn routes_copied(alloc: Global, routes: &Routes) -> Result<Routes, No
     let paths = rows_copied(alloc, routes.paths.as_slice())?;
     let ordered = Seq::copied(alloc, routes.ordered.as_slice())?;
     let receiving = rows_copied(alloc, routes.receiving.as_slice())?;
+    let slots = Seq::copied(alloc, routes.slots.as_slice())?;
     Ok(Routes {
         paths,
         jitter: routes.jitter,
         ordered,
         receiving,
+        slots,
     })
 }

@@ -7,7 +7,7 @@ use Rattle.std.specs.List.{AllPairs}
 use Rattle.std.specs.Option.{option_map}
 use Rattle.ruby_value.specs.declared.fault.Finding.{Finding}
 use Rattle.ruby_value.specs.declared.fault.Finding.TheVariants.{Deadlock, Incoherent, Passed}
-use Rattle.ruby_value.specs.declared.message.Message.{Message}
+use Rattle.ctl_face.specs.declared.parcel.Parcel.{Parcel}
 use Rattle.ruby_value.specs.Prelude.{IsRequest, Requests, with_request}
 use Rattle.protocol_runs.specs.Premises as premises
 use Rattle.protocol_runs.specs.Prelude.{Rules, driver_turn_in, World, HasQueue, FitsRun, HasSeats, SuitsReceiver, setup_of, Meaning, request_at, request_messages, rules, SeatSetup, Setting, seat_in, seats_in}
@@ -98,7 +98,7 @@ has-line xs (Some (Passed checks)) is = tt
 module _ {D : Type 0} (drive : D → List Seat → ℕ → Drive D) (needs : D → ℕ → ℕ) (least : D → ℕ) (driver : IsDriver drive needs least)
     (cycles : ℕ) (seats : List SeatAt) (p : Meaning) (s : Setting D) (held : Ctl) (st : State D)
     (of_run : IsOfRun least drive cycles seats p s held st) (running : st.verdict ≡ None) (nobody : IsNobody (made_in st.places.items)) where
-  abbrev pub R : Rules Ctl Message D
+  abbrev pub R : Rules Ctl Parcel D
   R = rules p drive s
 
   abbrev pub W : World Ctl D

@@ -6,7 +6,7 @@ use Rattle.run_journal.specs.declared.event.Event.TheVariants.{Turn}
 use Rattle.run_journal.specs.declared.verdict.Verdict.{Verdict}
 use Rattle.run_journal.specs.declared.verdict.Verdict.TheVariants.{Stop}
 use Rattle.ruby_value.specs.Prelude.{has_mark}
-use Rattle.ruby_value.specs.declared.message.Message.{Message}
+use Rattle.ctl_face.specs.declared.parcel.Parcel.{Parcel}
 use Rattle.protocol_runs.specs.Prelude.{Closes, IsIdle, Rules, Stepped, is_busy, stopped_by, least_stopped, World, Meaning, rules, Setting}
 use Rattle.protocol_runs.specs.World as runs
 use Rattle.protocol_runs.proofs.Steps.{change-steps}
@@ -36,7 +36,7 @@ position-mapped f h g xs same =
     ∙ ap (λ (k : ℕ). cond (nat_lt (position_or_len h xs) k) (Some (position_or_len h xs)) None) (length-map xs g)
 
 module _ {D : Type 0} (p : Meaning) (drive : D → List Seat → ℕ → Drive D) (s : Setting D) (held : Ctl) where
-  abbrev R : Rules Ctl Message D
+  abbrev R : Rules Ctl Parcel D
   R = rules p drive s
 
   rested-by : (now : ℕ) (finished : Bool) (k : Keeper) → IsHomeBy k → (has_mark (marks_by k) now && not finished) ≡ false → is_busy R now (place_by held finished k) ≡ false

@@ -1,8 +1,7 @@
 -- The copies of a transition that fires can come to their receivers: each is for another controller, which is there, has a buffer for
 -- it, and has no message of its number; and no two of them have one number.
-use Rattle.std.proofs.Common.{◌≡◌, ◌≢◌, ◌<◌, ◌≤◌, ◌+◌, ◌&&◌, ◌==◌, not, ℕ, zero, suc, Bool, true, false, List, [], ◌∷◌, Option, None, Some, All, IsSomeAnd, cond, filter, map, length, refl, sym, ◌∙◌, ap, subst, slice_get, arith}
+use Rattle.std.proofs.Common.{◌≡◌, ◌≢◌, ◌<◌, ◌≤◌, ◌+◌, ◌&&◌, ◌==◌, ◌++◌, not, ℕ, zero, suc, Bool, true, false, List, [], ◌∷◌, Option, None, Some, All, IsSomeAnd, cond, filter, map, length, refl, sym, ◌∙◌, ap, subst, slice_get, arith}
 use Rattle.std.proofs.lemmas.Bool.{eq-eqb}
-use Rattle.std.proofs.lemmas.List.{length-map}
 use Rattle.std.proofs.lemmas.List.Elements.{All-cons, All-filter, All-head, All-nil, All-tail, All-weaker}
 use Rattle.std.proofs.lemmas.List.Kept.{AllPairs-cons, AllPairs-filter}
 use Rattle.std.proofs.lemmas.Option.{same_Some, slice_get_within}
@@ -10,15 +9,20 @@ use Rattle.std.specs.List.{AllPairs}
 use Rattle.ruby_value.proofs.Ordered.{AllPairs-head, AllPairs-nil, AllPairs-tail}
 use Rattle.ruby_value.specs.declared.message.Delivery.{Delivery}
 use Rattle.ruby_value.specs.declared.message.Message.{Message}
+use Rattle.ctl_face.specs.declared.parcel.Credit.{Credit}
+use Rattle.ctl_face.specs.declared.parcel.Parcel.{Parcel}
+use Rattle.ctl_face.specs.declared.parcel.Parcel.TheVariants as parcel
 use Rattle.ruby_value.specs.declared.message.MsgNo.{MsgNo}
 use Rattle.ruby_value.specs.declared.message.Sent.{Sent}
 use Rattle.ruby_value.specs.declared.setup.MachineSetup.{MachineSetup}
 use Rattle.ruby_value.specs.Prelude.{same_number, numbers_from}
 use Rattle.protocol_runs.specs.Prelude.{times, mailed}
 use Rattle.protocol_runs.specs.RunRules as runs_rules
+use Rattle.protocol_runs.proofs.Parcels.{all-parcels}
 use Rattle.protocol_runs.proofs.Tallies.{counted, one, tally}
-use Rattle.ctl_face.specs.Prelude.{sent_of, Ctl, InboxMessage, LocalView, TakesFields}
+use Rattle.ctl_face.specs.Prelude.{credits_among, messages_among, sent_of, Ctl, InboxMessage, Mail}
 use Rattle.ctl_mail.specs.Prelude.{IsNewIn}
+use Rattle.world_state.specs.Arrivals.{AreApart, HaveOwnNumbers}
 
 -- what holds of mapped elements
 unmap-all : {X Y : Type 0} (P : Y → Type 0) (f : X → Y) (xs : List X) → All P (map f xs) → All (λ x. P (f x)) xs
@@ -72,19 +76,54 @@ module _ (sender count : ℕ) (notes : List Sent) (keeps : Sent → Bool) (poste
       (unmap-pairs Differ (λ (n : Sent). n.number) notes
       (subst (λ (ns : List MsgNo). AllPairs Differ ns) (sym numbers) (apart-next sender count (length notes))))))
 
-  filter-fewer : (xs : List Sent) → length (filter keeps xs) ≤ length xs
-  filter-fewer [] = omega arith
-  filter-fewer (x ∷ xs) = by (keeps x) (filter-fewer xs)
-    where
-      by : (b : Bool) → length (filter keeps xs) ≤ length xs → length (cond b (x ∷ filter keeps xs) (filter keeps xs)) ≤ suc (length xs)
-      by true le = omega (arith, le)
-      by false le = omega (arith, le)
+any-credit : (ds : List (Delivery Credit)) → All (λ (d : Delivery Credit). Unit {0}) ds
+any-credit [] = All-nil (λ (d : Delivery Credit). Unit {0})
+any-credit (d ∷ ds) = All-cons (λ (e : Delivery Credit). Unit {0}) d ds tt (any-credit ds)
 
-  pub posted-fewer : length posted ≤ length notes
-  posted-fewer =
-      let same : length posted ≡ length (filter keeps notes) = sym (length-map posted sent_of) ∙ ap (λ (ns : List Sent). length ns) are in
-      let fewer = filter-fewer notes in
-      omega (arith, same, fewer)
+-- Messages with different numbers are apart among credits, too.
+apart-from : (receiver : ℕ) (m : Message) (ds : List (Delivery Parcel)) → All (λ (d : Delivery Message). m.number ≢ d.message.number) (messages_among ds)
+    → All (AreApart (record { receiver = receiver; message = parcel.Message m })) ds
+apart-from receiver m ds all =
+    all-parcels (λ (d : Delivery Message). m.number ≢ d.message.number) (λ (d : Delivery Credit). Unit {0}) (λ to p. HaveOwnNumbers (parcel.Message m) p)
+    (λ d differ. differ) (λ d any. tt) ds all (any-credit (credits_among ds))
+
+credit-apart : (receiver : ℕ) (c : Credit) (ds : List (Delivery Parcel)) → All (AreApart (record { receiver = receiver; message = parcel.Credit c })) ds
+credit-apart receiver c [] = All-nil (AreApart (record { receiver = receiver; message = parcel.Credit c }))
+credit-apart receiver c (d ∷ ds) = All-cons (AreApart (record { receiver = receiver; message = parcel.Credit c })) d ds tt (credit-apart receiver c ds)
+
+apart-more : (ds : List (Delivery Parcel)) (receiver : ℕ) (p : Parcel)
+    → AllPairs (λ (a b : Delivery Message). a.message.number ≢ b.message.number) (messages_among (record { receiver = receiver; message = p } ∷ ds))
+    → (AllPairs (λ (a b : Delivery Message). a.message.number ≢ b.message.number) (messages_among ds) → AllPairs AreApart ds)
+    → AllPairs AreApart (record { receiver = receiver; message = p } ∷ ds)
+apart-more ds receiver (parcel.Message m) pairs rest =
+    let Differs : Delivery Message → Delivery Message → Type 0 = λ a b. a.message.number ≢ b.message.number in
+    AllPairs-cons AreApart _ ds (apart-from receiver m ds (AllPairs-head Differs _ (messages_among ds) pairs))
+    (rest (AllPairs-tail Differs _ (messages_among ds) pairs))
+apart-more ds receiver (parcel.Credit c) pairs rest = AllPairs-cons AreApart _ ds (credit-apart receiver c ds) (rest pairs)
+
+pub parcels-apart : (ds : List (Delivery Parcel)) → AllPairs (λ (a b : Delivery Message). a.message.number ≢ b.message.number) (messages_among ds) → AllPairs AreApart ds
+parcels-apart [] pairs = AllPairs-nil AreApart
+parcels-apart (d ∷ ds) pairs = apart-more ds d.receiver d.message pairs (parcels-apart ds)
+
+pub numbers-length : (sender count n : ℕ) → length (numbers_from sender count n) ≡ n
+numbers-length sender count zero = refl
+numbers-length sender count (suc n) = ap suc (numbers-length sender (count + 1) n)
+
+-- a message that comes has a number that is new to the inbox; a credit has none
+abbrev pub IsNewTo : Mail → Parcel → Type 0
+IsNewTo mail (parcel.Message m) = IsNewIn mail m.number
+IsNewTo mail (parcel.Credit c) = Unit {0}
+
+-- and one of an actor's next numbers
+abbrev pub IsNextParcel : (sender count : ℕ) → Parcel → Type 0
+IsNextParcel sender count (parcel.Message m) = IsNext sender count m.number
+IsNextParcel sender count (parcel.Credit c) = Unit {0}
+
+pub parcels-next : (sender count : ℕ) (ds : List (Delivery Parcel)) → All (λ (d : Delivery Message). IsNext sender count d.message.number) (messages_among ds)
+    → All (λ (d : Delivery Parcel). IsNextParcel sender count d.message) ds
+parcels-next sender count ds all =
+    all-parcels (λ (d : Delivery Message). IsNext sender count d.message.number) (λ (d : Delivery Credit). Unit {0}) (λ to p. IsNextParcel sender count p)
+    (λ d is. is) (λ d any. tt) ds all (any-credit (credits_among ds))
 
 -- a number that stands nowhere in an inbox is new to it
 same-one : (a b : MsgNo) → a ≡ b → one (same_number a b) ≡ 1

@@ -6,7 +6,7 @@ use Rattle.std.specs.List.{All}
 use Rattle.ruby_value.specs.Prelude.{IsRequest, Roomy}
 use Rattle.ruby_value.specs.declared.fault.Finding.{Finding}
 use Rattle.ruby_value.specs.declared.message.Delivery.{Delivery}
-use Rattle.ruby_value.specs.declared.message.Message.{Message}
+use Rattle.ctl_face.specs.declared.parcel.Parcel.{Parcel}
 use Rattle.ruby_value.specs.declared.message.MsgNo.{MsgNo}
 use Rattle.run_journal.specs.declared.entry.Entry.{Entry}
 use Rattle.run_journal.specs.Prelude as run_journal
@@ -16,6 +16,7 @@ use Rattle.protocol_runs.specs.Prelude.{request_messages, seat_in, seats_in}
 use Rattle.sequencer.specs.declared.issued.Issued.{Issued}
 use Rattle.sequencer.specs.declared.owned_seat.OwnedSeat.{OwnedSeat}
 use Rattle.sequencer.specs.Prelude.{Drive, after_drive, seat_of, seats_of, FitSeats, Seat, Seating}
+use Rattle.world_state.proofs.Asking.{numbers-count}
 use Rattle.world_state.specs.Prelude.{HasRoom, HasRoomBy, delivered, HasLine, IsHome, Made, made_by, made_in, places_with, IsHomeIn, controllers_in, seated, setup_of, setups_in, Booked, AreOut, CanEnd, HasRoomToAct, IsActed, IsReadyToAct, IsActIn, IsDriven, IsReady, messages_in, numbers_of, requests_in, seated_in, seating_in}
 use Rattle.world_state.specs.declared.place.Keeper.{Keeper}
 use Rattle.world_state.specs.declared.place.Keeper.TheVariants.{World, Worker}
@@ -47,7 +48,7 @@ put-back seats old taken mid new put law rest same are is =
 
 -- room for messages is room for fewer
 room-by : (n m : ℕ) (k : Keeper) → m ≤ n → HasRoomBy n k → HasRoomBy m k
-room-by n m (World k) le has = record { buffers = λ b lt. (let enough = has.buffers b lt in omega (arith, le, enough)); marks = omega (arith, le, has.marks) }
+room-by n m (World k) le has = record { buffers = λ b lt. (let enough = has.buffers b lt in omega (arith, le, enough)); marks = omega (arith, le, has.marks); credits = omega (arith, le, has.credits) }
 room-by n m (Worker w) le has = tt
 
 pub room-fewer : (n m : ℕ) (places : List Place) → m ≤ n → All (HasRoom n) places → All (HasRoom m) places
@@ -124,12 +125,12 @@ module _ {D : Type 0} (least : D → ℕ) (needs : D → ℕ → ℕ) (drive : D
     places = λ x.
         acted.places x
         ∙ ap (λ (ps : List (runs.Place Ctl)). delivered ps (requests_in seats mid d)) (seated-same count x)
-        ∙ ap (λ (ms : List (Delivery Message)). delivered (seated_in seats x old d) ms) requests-same;
+        ∙ ap (λ (ms : List (Delivery Parcel)). delivered (seated_in seats x old d) ms) requests-same;
     made = acted.made ∙ out.made;
     driver = acted.driver;
     issued =
         acted.issued ∙ ap (λ (n : ℕ). n + length (requests_in seats mid d)) out.cycle.issued
-        ∙ ap (λ (ms : List (Delivery Message)). old.issued + length ms) requests-same;
+        ∙ ap (λ (ms : List (Delivery Parcel)). old.issued + length ms) requests-same;
     next = acted.next;
     verdict = acted.verdict ∙ out.cycle.verdict;
     history = ap (λ (b : Booked). b.history) acted.book ∙ out.history;
@@ -143,8 +144,8 @@ module _ {D : Type 0} (least : D → ℕ) (needs : D → ℕ → ℕ) (drive : D
       let journal : new.book.journal ≡ mid.book.journal = ap (λ (b : Booked). b.journal) acted.book in
       let number : length told.numbers ≡ length d.issued =
       ap (λ (ns : List MsgNo). length ns) numbers
-      ∙ length-map (requests_in seats mid d) (λ (m : Delivery Message). m.message.number)
-      ∙ ap (λ (ms : List (Delivery Message)). length ms) requests-same
+      ∙ numbers-count (setups_in seats) (length mid.places.items) mid.issued mid.now d.issued
+      ∙ ap (λ (ms : List (Delivery Parcel)). length ms) requests-same
       ∙ messages in
       record {
         cycle = omega (arith, ready.cycle, out.cycle.now, acted.now);

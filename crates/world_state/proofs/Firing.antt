@@ -3,7 +3,7 @@ use Rattle.std.proofs.Common.{◌≡◌, ◌<◌, ◌+◌, ◌++◌, ℕ, Bool, 
 use Rattle.run_journal.specs.declared.event.Event.TheVariants.{Fire}
 use Rattle.run_journal.specs.declared.entry.FireNote.{FireNote}
 use Rattle.ruby_value.specs.declared.message.Delivery.{Delivery}
-use Rattle.ruby_value.specs.declared.message.Message.{Message}
+use Rattle.ctl_face.specs.declared.parcel.Parcel.{Parcel}
 use Rattle.protocol_runs.specs.Prelude.{FiredBy, Acts, Fired, Rules, fired_entry, Meaning, rules, Setting}
 use Rattle.protocol_runs.specs.World as runs
 use Rattle.ctl_face.specs.Prelude.{with_one_fired, Ctl}
@@ -14,11 +14,11 @@ use Rattle.world_state.proofs.Stepping.{moves, stays-kept}
 use Rattle.world_state.proofs.Worlds.{delivers, held-same, place-at}
 
 module _ {D : Type 0} (p : Meaning) (drive : D → List Seat → ℕ → Drive D) (s : Setting D) where
-  abbrev R : Rules Ctl Message D
+  abbrev R : Rules Ctl Parcel D
   R = rules p drive s
 
   module _ (x : Ctl) (old new : State D) (worker c : ℕ) (finished : Bool) (was : slice_get old.places.items c ≡ Some (held_place worker finished))
-      (is_kept : IsKept p drive s x old) (note : FireNote) (acts : Acts) (copies : List (Delivery Message)) (after : Ctl) where
+      (is_kept : IsKept p drive s x old) (note : FireNote) (acts : Acts) (copies : List (Delivery Parcel)) (after : Ctl) where
     pub fire-steps : old.verdict ≡ None → (R.scan c x old.now).outcome ≡ Fired note acts copies after
         → ((held : Ctl) → places_with held new.places.items ≡ delivered (places_with held old.places.items) copies)
         → SameCycle old new → Writes old new (Fire worker c) (Some (fired_entry old.now c note acts))

@@ -1,6 +1,6 @@
 -- A world's data as a run begins are those of its opening.
 use Rattle.std.proofs.Common.{◌≡◌, ℕ, zero, suc, false, List, [], ◌∷◌, Option, None, Some, map, refl, sym, ◌∙◌, ap, subst, slice_get}
-use Rattle.ruby_value.specs.declared.message.Message.{Message}
+use Rattle.ctl_face.specs.declared.parcel.Parcel.{Parcel}
 use Rattle.run_journal.specs.declared.entry.Entry.{Entry}
 use Rattle.run_journal.specs.declared.event.Event.{Event}
 use Rattle.run_journal.specs.declared.verdict.Verdict.{Verdict}
@@ -34,7 +34,7 @@ opened-at (k ∷ kept) (suc c) m is = opened-at kept c m is
 
 module _ {D : Type 0} (p : Meaning) (drive : D → List Seat → ℕ → Drive D) (s : Setting D) (held : Ctl) (kept : List Kept) (st : State D)
     (opens : IsOpening kept s.driver st) (are : map (λ (k : Kept). ctl_of k.store) kept ≡ opening_of p drive s) where
-  abbrev R : Rules Ctl Message D
+  abbrev R : Rules Ctl Parcel D
   R = rules p drive s
 
   world-opens : opening R ≡ world_of held st

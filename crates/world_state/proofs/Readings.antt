@@ -5,7 +5,7 @@ use Rattle.std.proofs.lemmas.Bool.{cases_lt, cond-true, lt-ltb, or_parts}
 use Rattle.std.proofs.lemmas.List.Sums.{fails_before_first}
 use Rattle.std.proofs.lemmas.Option.{get_or_from_slice_get, slice_get_within}
 use Rattle.ruby_value.specs.Prelude.{has_mark}
-use Rattle.ruby_value.specs.declared.message.Message.{Message}
+use Rattle.ctl_face.specs.declared.parcel.Parcel.{Parcel}
 use Rattle.protocol_runs.specs.Prelude.{Rules, Meaning, rules, Setting}
 use Rattle.protocol_runs.specs.World as runs
 use Rattle.ctl_face.specs.Prelude.{Ctl}
@@ -57,7 +57,7 @@ none-held (k ∷ places) none (suc c) is =
     let parts = or_parts (is_held k.keeper) (list_any (λ (j : Place). is_held j.keeper) places) none in none-held places parts.1 c is
 
 module _ {D : Type 0} (p : Meaning) (drive : D → List Seat → ℕ → Drive D) (s : Setting D) (held : Ctl) where
-  abbrev R : Rules Ctl Message D
+  abbrev R : Rules Ctl Parcel D
   R = rules p drive s
 
   free-by : (now : ℕ) (finished : Bool) (k : Keeper) → runs.is_free R now (place_by held finished k) ≡ (has_mark (marks_by k) now && not finished)

@@ -1,20 +1,24 @@
--- The messages of a driver's requests can come to their receivers, once the sequencers are back in their stores: they have the driver's
+-- A driver's requests can come to their receivers, once the sequencers are back in their stores: they have the driver's
 -- next numbers, which are in no inbox, and what the driver does changes no inbox.
 use Rattle.std.proofs.Common.{◌≡◌, ◌<◌, ◌≤◌, ◌==◌, ℕ, Bool, true, List, [], ◌∷◌, Option, None, Some, All, cond, filter, length, map, refl, sym, ◌∙◌, ap, subst, slice_get, arith}
 use Rattle.std.proofs.lemmas.Bool.{eq-eqb}
 use Rattle.std.proofs.lemmas.List.{length-map}
 use Rattle.std.specs.List.{AllPairs}
 use Rattle.ruby_value.specs.declared.message.Delivery.{Delivery}
+use Rattle.ctl_face.specs.declared.parcel.Parcel.{Parcel}
 use Rattle.ruby_value.specs.declared.message.Message.{Message}
+use Rattle.ruby_value.specs.declared.message.MsgNo.{MsgNo}
 use Rattle.ruby_value.specs.declared.message.Sent.{Sent}
 use Rattle.ruby_value.specs.Prelude.{numbers_from}
 use Rattle.protocol_runs.specs.Prelude.{given, given_at, Rules, changed_from, driver_turn_in, World, SuitsReceiver, Meaning, rules, Setting, acts_at, served}
 use Rattle.protocol_runs.specs.World as runs
 use Rattle.protocol_runs.proofs.Places.{changed, paired-back}
-use Rattle.ctl_face.specs.Prelude.{sent_of, Ctl, Mail}
+use Rattle.ctl_face.specs.declared.parcel.Parcel.TheVariants as parcel
+use Rattle.ctl_face.specs.Prelude.{messages_among, sent_of, Ctl, Mail}
 use Rattle.ctl_face.proofs.Betweens.{driver_mail}
 use Rattle.ctl_mail.specs.Prelude.{IsNewIn}
 use Rattle.protocol_runs.proofs.Driver.{IsDriver}
+use Rattle.protocol_runs.proofs.Parcels.{numbers-among}
 use Rattle.protocol_runs.proofs.Lawful.{fresh}
 use Rattle.protocol_runs.proofs.Scans.{maps-join}
 use Rattle.sequencer.specs.Prelude.{Drive, Seat}
@@ -25,7 +29,7 @@ use Rattle.world_state.specs.declared.seat.SeatAt.{SeatAt}
 use Rattle.world_state.proofs.Served.{served-places}
 use Rattle.world_state.specs.declared.state.State.{State}
 use Rattle.world_state.proofs.Arriving.{Comes, can-arrive}
-use Rattle.world_state.proofs.Copies.{IsNext, new-in, posted-apart, posted-next}
+use Rattle.world_state.proofs.Copies.{IsNewTo, IsNextParcel, new-in, numbers-length, parcels-apart, parcels-next, posted-apart, posted-next}
 use Rattle.world_state.proofs.Acting.{asked, count, fits, lawful-rules, mail-rules, requests-are, seats-apart}
 
 all-pass : {X : Type 0} (xs : List X) → filter (λ (x : X). true) xs ≡ xs
@@ -40,7 +44,7 @@ module _ {D : Type 0} (drive : D → List Seat → ℕ → Drive D) (needs : D �
     (cycles : ℕ) (seats : List SeatAt) (p : Meaning) (s : Setting D) (held : Ctl) (st : State D)
     (of_run : IsOfRun least drive cycles seats p s held st) (running : st.verdict ≡ None) (nobody : IsNobody (made_in st.places.items))
     (d : Drive D) (act : IsActIn drive seats st d) where
-  abbrev R : Rules Ctl Message D
+  abbrev R : Rules Ctl Parcel D
   R = rules p drive s
 
   abbrev W : World Ctl D
@@ -49,7 +53,7 @@ module _ {D : Type 0} (drive : D → List Seat → ℕ → Drive D) (needs : D �
   abbrev n : ℕ
   n = length R.controllers
 
-  abbrev asks : List (Delivery Message)
+  abbrev asks : List (Delivery Parcel)
   asks = (driver_turn_in R W).requests
 
   -- an inbox stays as the driver acts
@@ -64,23 +68,34 @@ module _ {D : Type 0} (drive : D → List Seat → ℕ → Drive D) (needs : D �
       (ap (λ (ps : List (runs.Place Ctl)). slice_get ps c) (sym same) ∙ there) in
       (o, at, ap (λ (x : runs.Place Ctl). x.controller.mail) is ∙ driver_mail (acts_at (setups_in seats) c d) o.controller)
 
-  -- the numbers of the messages
-  numbered : map (λ (e : Delivery Message). e.message.number) asks ≡ numbers_from n st.issued (length asks)
+  -- the messages among them, and their numbers
+  abbrev messages : List (Delivery Message)
+  messages = messages_among asks
+
+  numbered : map (λ (e : Delivery Message). e.message.number) messages ≡ numbers_from n st.issued (length asks)
   numbered =
       let mail = mail-rules drive needs least driver cycles seats p s held st of_run running nobody in
-      mail.asks st.driver (controllers_in W.places) st.now st.issued (asked drive needs least driver cycles seats p s held st of_run running nobody)
+      sym (numbers-among asks)
+      ∙ mail.asks st.driver (controllers_in W.places) st.now st.issued (asked drive needs least driver cycles seats p s held st of_run running nobody)
+
+  as-many : length messages ≡ length asks
+  as-many =
+      sym (length-map messages (λ (e : Delivery Message). e.message.number)) ∙ ap (λ (ns : List MsgNo). length ns) numbered
+      ∙ numbers-length n st.issued (length asks)
 
   -- as they are told of sent messages
-  told-numbers : map (λ (n : Sent). n.number) (map sent_of asks) ≡ numbers_from n st.issued (length (map sent_of asks))
+  told-numbers : map (λ (n : Sent). n.number) (map sent_of messages) ≡ numbers_from n st.issued (length (map sent_of messages))
   told-numbers =
-      maps-join (λ (n : Sent). n.number) sent_of asks ∙ numbered
-      ∙ ap (λ (k : ℕ). numbers_from n st.issued k) (sym (length-map asks sent_of))
+      maps-join (λ (n : Sent). n.number) sent_of messages ∙ numbered
+      ∙ ap (λ (k : ℕ). numbers_from n st.issued k) (sym (length-map messages sent_of ∙ as-many))
 
-  next-ones : All (λ (e : Delivery Message). IsNext n st.issued e.message.number) asks
-  next-ones = posted-next n st.issued (map sent_of asks) (λ x. true) asks told-numbers (sym (all-pass (map sent_of asks)))
+  next-ones : All (λ (e : Delivery Parcel). IsNextParcel n st.issued e.message) asks
+  next-ones =
+      parcels-next n st.issued asks (posted-next n st.issued (map sent_of messages) (λ x. true) messages told-numbers (sym (all-pass (map sent_of messages))))
 
   apart-ones : AllPairs arrivals.AreApart asks
-  apart-ones = posted-apart n st.issued (map sent_of asks) (λ x. true) asks told-numbers (sym (all-pass (map sent_of asks)))
+  apart-ones =
+      parcels-apart asks (posted-apart n st.issued (map sent_of messages) (λ x. true) messages told-numbers (sym (all-pass (map sent_of messages))))
 
   -- the driver has given as many as it has issued
   given-issued : given R W n ≡ st.issued
@@ -102,19 +117,24 @@ module _ {D : Type 0} (drive : D → List Seat → ℕ → Drive D) (needs : D �
     places-count : length places ≡ n
     places-count = same-length ∙ count drive needs least driver cycles seats p s held st of_run running nobody
 
-    comes : (e : Delivery Message) → SuitsReceiver s e.receiver e.message st.now → e.receiver < n → IsNext n st.issued e.message.number
+    fresh-at : (receiver : ℕ) (p : Parcel) → IsNextParcel n st.issued p → (place : runs.Place Ctl)
+        → slice_get (places_with held mid.places.items) receiver ≡ Some place → IsNewTo place.controller.mail p
+    fresh-at receiver (parcel.Message m) next place there =
+        let (o, at, same) = served-mail receiver place (ap (λ (ps : List (runs.Place Ctl)). slice_get ps receiver) (sym (are held)) ∙ there) in
+        subst (λ (x : Mail). IsNewIn x m.number) (sym same)
+        (new-in o.controller m.number
+        (fresh drive needs least driver p s of_run.meaning of_run.setting st.book.history W st.book.journal of_run.kept.run m.number
+        (subst (λ (k : ℕ). given R W k ≤ m.number.count) (sym next.sender_is)
+        (subst (λ (k : ℕ). k ≤ m.number.count) (sym given-issued) next.later)) receiver o at))
+    fresh-at receiver (parcel.Credit c) next place there = tt
+
+    comes : (e : Delivery Parcel) → SuitsReceiver s e.receiver e.message st.now → e.receiver < n → IsNextParcel n st.issued e.message
         → Comes drive needs least driver p s of_run.meaning of_run.setting held mid e
     comes e suits within next = record {
       within = omega (arith, within, places-count);
       free = λ there. nobody e.receiver (subst (λ (ms : List (Option Made)). IsHeldIn ms e.receiver) made there);
       suits = suits;
-      fresh = λ place there.
-          let (o, at, same) = served-mail e.receiver place (ap (λ (ps : List (runs.Place Ctl)). slice_get ps e.receiver) (sym (are held)) ∙ there) in
-          subst (λ (m : Mail). IsNewIn m e.message.number) (sym same)
-          (new-in o.controller e.message.number
-          (fresh drive needs least driver p s of_run.meaning of_run.setting st.book.history W st.book.journal of_run.kept.run e.message.number
-          (subst (λ (k : ℕ). given R W k ≤ e.message.number.count) (sym next.sender_is)
-          (subst (λ (k : ℕ). k ≤ e.message.number.count) (sym given-issued) next.later)) e.receiver o at));
+      fresh = fresh-at e.receiver e.message next;
     }
 
     all-come : All (Comes drive needs least driver p s of_run.meaning of_run.setting held mid) asks

@@ -1,13 +1,11 @@
 -- A turn at which the driver acts is a step of the run: the driver's act makes the world that the run's turn makes, and the end of the cycle
 -- is that of the run.
 use Rattle.std.proofs.Common.{◌≡◌, ◌+◌, ◌-◌, ◌++◌, ◌||◌, ◌&&◌, not, ℕ, suc, Bool, false, List, [], ◌∷◌, Option, None, Some, length, refl, sym, ◌∙◌, ap, subst, slice_get, arith}
-use Rattle.std.proofs.lemmas.List.{length-map}
-use Rattle.std.proofs.lemmas.List.Concat.{flat_map_single}
 use Rattle.std.specs.List.{list_any, position}
 use Rattle.ruby_value.specs.Prelude.{has_mark}
 use Rattle.ruby_value.specs.declared.fault.Finding.{Finding}
 use Rattle.ruby_value.specs.declared.message.Delivery.{Delivery}
-use Rattle.ruby_value.specs.declared.message.Message.{Message}
+use Rattle.ctl_face.specs.declared.parcel.Parcel.{Parcel}
 use Rattle.ruby_value.specs.declared.message.MsgNo.{MsgNo}
 use Rattle.run_journal.specs.declared.entry.Entry.{Entry}
 use Rattle.run_journal.specs.declared.entry.Entry.TheVariants.{Turned}
@@ -21,11 +19,12 @@ use Rattle.protocol_runs.proofs.Steps.{change-steps}
 use Rattle.ctl_face.specs.Prelude.{Ctl}
 use Rattle.protocol_runs.proofs.Driver.{IsDriver}
 use Rattle.sequencer.specs.Prelude.{Drive, Seat}
-use Rattle.world_state.specs.Prelude.{delivered, has_stopped, next_of, stopped_by, IsHomeBy, is_free, made_in, marks_by, place_by, place_with, places_with, IsRested, AreMade, IsKept, IsLone, IsNobody, world_of, IsStep, GoesOn, IsActIn, IsSameDriver, IsTurned, messages_in, next_in, numbers_of, requests_in, seated_in, IsOfRun}
+use Rattle.world_state.specs.Prelude.{delivered, has_stopped, next_of, stopped_by, IsHomeBy, is_free, made_in, marks_by, place_by, place_with, places_with, IsRested, AreMade, IsKept, IsLone, IsNobody, world_of, IsStep, GoesOn, IsActIn, IsSameDriver, IsTurned, messages_in, next_in, numbers_of, requests_in, seated_in, setups_in, IsOfRun}
 use Rattle.world_state.specs.declared.place.Keeper.{Keeper}
 use Rattle.world_state.specs.declared.place.Keeper.TheVariants.{World as Home, Worker}
 use Rattle.world_state.specs.declared.place.Place.{Place}
 use Rattle.world_state.specs.declared.seat.SeatAt.{SeatAt}
+use Rattle.world_state.proofs.Asking.{numbers-count}
 use Rattle.world_state.proofs.Served.{served-places}
 use Rattle.world_state.specs.declared.state.State.{State}
 use Rattle.world_state.proofs.Closings.{position-mapped}
@@ -48,7 +47,7 @@ same-world {D = D} a b now places driver issued next verdict =
     ∙ ap (λ (v : Option Verdict). W b.now b.places b.driver b.issued b.next v) verdict
 
 module _ {D : Type 0} (p : Meaning) (drive : D → List Seat → ℕ → Drive D) (s : Setting D) (held : Ctl) where
-  abbrev R : Rules Ctl Message D
+  abbrev R : Rules Ctl Parcel D
   R = rules p drive s
 
   -- where nobody is held and no controller is due, none is busy; and those that have stopped are those of the data
@@ -100,13 +99,13 @@ module _ {D : Type 0} (drive : D → List Seat → ℕ → Drive D) (needs : D �
     (of_run : IsOfRun least drive cycles seats p s held old) (running : old.verdict ≡ None) (nobody : IsNobody (made_in old.places.items)) (rested : IsRested old)
     (none : position has_stopped old.places.items ≡ None)
     (worker : ℕ) (verdict : Option Verdict) (new : State D) (turned : IsTurned drive cycles seats worker verdict old new) where
-  abbrev Rs : Rules Ctl Message D
+  abbrev Rs : Rules Ctl Parcel D
   Rs = rules p drive s
 
   abbrev W : World Ctl D
   W = world_of held old
 
-  abbrev d : DriverTurn Ctl Message D
+  abbrev d : DriverTurn Ctl Parcel D
   d = driver_turn_in Rs W
 
   abbrev did : Drive D
@@ -136,7 +135,7 @@ module _ {D : Type 0} (drive : D → List Seat → ℕ → Drive D) (needs : D �
       let driven = turned.driven in
       delivers p drive s (changed_from 0 d.controller_after W.places) d.requests
       ∙ ap (λ (ps : List (runs.Place Ctl)). delivered ps d.requests) served-are
-      ∙ ap (λ (ds : List (Delivery Message)). delivered (seated_in seats held old did) ds) (sym asks-are)
+      ∙ ap (λ (ds : List (Delivery Parcel)). delivered (seated_in seats held old did) ds) (sym asks-are)
       ∙ sym (driven.places held)
 
   mid-world : driven_world Rs W ≡ world_of held mid
@@ -144,7 +143,7 @@ module _ {D : Type 0} (drive : D → List Seat → ℕ → Drive D) (needs : D �
       let driven = turned.driven in
       same-world (driven_world Rs W) (world_of held mid) (sym driven.now) mid-places
       (ap (λ (e : Drive D). e.driver) (sym did-is) ∙ sym driven.driver)
-      (ap (λ (ds : List (Delivery Message)). old.issued + length ds) (sym asks-are) ∙ sym driven.issued)
+      (ap (λ (ds : List (Delivery Parcel)). old.issued + length ds) (sym asks-are) ∙ sym driven.issued)
       (ap (λ (e : Drive D). e.next) (sym did-is) ∙ sym driven.next)
       (sym driven.verdict)
 
@@ -165,7 +164,7 @@ module _ {D : Type 0} (drive : D → List Seat → ℕ → Drive D) (needs : D �
   mail = length (held_mail Rs (driven_world Rs W).places)
 
   numbers-length : length (numbers_of (requests_in seats old did)) ≡ length d.requests
-  numbers-length = length-map (requests_in seats old did) (λ (e : Delivery Message). e.message.number) ∙ ap (λ (ds : List (Delivery Message)). length ds) asks-are
+  numbers-length = numbers-count (setups_in seats) (length old.places.items) old.issued old.now did.issued ∙ ap (λ (ds : List (Delivery Parcel)). length ds) asks-are
 
   mail-is : mail ≡ messages_in mid.book.journal + length (numbers_of (requests_in seats old did))
   mail-is =
@@ -206,8 +205,7 @@ module _ {D : Type 0} (drive : D → List Seat → ℕ → Drive D) (needs : D �
       let numbers : List MsgNo = numbers_of (requests_in seats old did) in
       let m : World Ctl D = world_of held mid in
       ap (λ (w : World Ctl D). ends w (delivery_numbers Rs d.requests) d.finding (step.next_in Rs w) o) mid-world
-      ∙ ap (λ (ns : List MsgNo). ends m ns d.finding (step.next_in Rs m) o) (flat_map_single (λ (x : Delivery Message). x.message.number) d.requests)
-      ∙ ap (λ (ds : List (Delivery Message)). ends m (numbers_of ds) d.finding (step.next_in Rs m) o) (sym asks-are)
+      ∙ ap (λ (ds : List (Delivery Parcel)). ends m (numbers_of ds) d.finding (step.next_in Rs m) o) (sym asks-are)
       ∙ ap (λ (e : Drive D). ends m numbers e.finding (step.next_in Rs m) o) (sym did-is)
       ∙ ap (λ (k : Option ℕ). ends m numbers did.finding k o) mid-next
       ∙ ap (λ (u : Option Verdict). ends m numbers did.finding (next_in mid) u) verdict-is

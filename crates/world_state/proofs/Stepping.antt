@@ -9,7 +9,7 @@ use Rattle.run_journal.specs.declared.entry.Entry.TheVariants as entry
 use Rattle.run_journal.specs.declared.event.Event.{Event}
 use Rattle.run_journal.specs.declared.event.Event.TheVariants.{Take, Fire, Done, Release, Turn}
 use Rattle.run_journal.specs.declared.verdict.Verdict.{Verdict}
-use Rattle.ruby_value.specs.declared.message.Message.{Message}
+use Rattle.ctl_face.specs.declared.parcel.Parcel.{Parcel}
 use Rattle.protocol_runs.specs.Prelude.{Ends, EndedBy, FiredBy, Move, Moves, Released, Taken, Rules, IsRun, Moved, Stepped, with_deliveries, World, Meaning, rules, Setting}
 use Rattle.protocol_runs.specs.World as runs
 use Rattle.protocol_runs.proofs.Runs.{run-more}
@@ -33,7 +33,7 @@ pub set-made : (places : List Place) (c : ℕ) (k : Place) → made_in (slice_se
 set-made places c k = map-set (λ (p : Place). made_by p.keeper) places c k
 
 module _ {D : Type 0} (p : Meaning) (drive : D → List Seat → ℕ → Drive D) (s : Setting D) where
-  abbrev R : Rules Ctl Message D
+  abbrev R : Rules Ctl Parcel D
   R = rules p drive s
 
   -- the world of data whose cycle is the same, by its places
@@ -50,7 +50,7 @@ module _ {D : Type 0} (p : Meaning) (drive : D → List Seat → ℕ → Drive D
       ∙ ap (λ (v : Option Verdict). W new.now (places_with held new.places.items) new.driver new.issued new.next v) (sym same.verdict)
 
   -- an event of a controller
-  pub moves : (held held_after : Ctl) (old new : State D) (c : ℕ) (q : runs.Place Ctl) (e : Event) (m : Moved Ctl Message) → old.verdict ≡ None
+  pub moves : (held held_after : Ctl) (old new : State D) (c : ℕ) (q : runs.Place Ctl) (e : Event) (m : Moved Ctl Parcel) → old.verdict ≡ None
       → slice_get (places_with held old.places.items) c ≡ Some q → Move R old.now c q e m
       → places_with held_after new.places.items ≡ with_deliveries R (slice_set (places_with held old.places.items) c m.place) m.copies
       → SameCycle old new → Writes old new e m.entry → IsStep p drive s held old e held_after new

@@ -10,7 +10,7 @@ use Rattle.ruby_value.specs.Prelude.{Requests}
 use Rattle.protocol_runs.specs.World as runs
 use Rattle.ctl_face.specs.Prelude.{Ctl}
 use Rattle.ctl_store.specs.declared.parts.Parts.{Parts}
-use Rattle.ctl_store.specs.Prelude.{ctl_of, machine_of, me_of, HasRoomForMessages, IsSameStore}
+use Rattle.ctl_store.specs.Prelude.{ctl_of, machine_of, me_of, HasRoomForParcels, IsSameStore}
 use Rattle.world_state.specs.Prelude.{HasRoom, HasRoomBy, Made, made_by, made_in, place_by, place_with, places_with, IsHomeIn, controllers_in, seated_one, with_requests, with_requests_at}
 use Rattle.world_state.specs.declared.place.Keeper.{Keeper}
 use Rattle.world_state.specs.declared.place.Keeper.TheVariants as keeper
@@ -57,7 +57,7 @@ module _ (items : List Place) (a : SeatAt) (x : Place) (kept : Kept) (new : Part
       ∙ sym (ap made_by is)
       ∙ ap (λ (p : Place). made_by p.keeper) at)
 
-  pub swapped-room : ((n : ℕ) → HasRoomForMessages kept.store n → HasRoomForMessages new n) → (n : ℕ) → All (HasRoom n) items → All (HasRoom n) (slice_set items a.controller swapped)
+  pub swapped-room : ((n : ℕ) → HasRoomForParcels kept.store n → HasRoomForParcels new n) → (n : ℕ) → All (HasRoom n) items → All (HasRoom n) (slice_set items a.controller swapped)
   swapped-room room n all =
       All-set (HasRoom n) items a.controller swapped
       (room n (subst (λ (k : Keeper). HasRoomBy n k) is (subst (HasRoom n) (sym at) (all a.controller x (home-within items a.controller home))))) all

@@ -3,7 +3,7 @@ use Rattle.std.proofs.Common.{◌≡◌, ◌≢◌, ℕ, zero, suc, Bool, List, 
 use Rattle.std.proofs.lemmas.Option.{slice_get-map}
 use Rattle.std.specs.Option.{option_map}
 use Rattle.ruby_value.specs.declared.message.Delivery.{Delivery}
-use Rattle.ruby_value.specs.declared.message.Message.{Message}
+use Rattle.ctl_face.specs.declared.parcel.Parcel.{Parcel}
 use Rattle.protocol_runs.specs.Prelude.{Rules, with_deliveries, with_delivery_at, Meaning, rules, Setting}
 use Rattle.protocol_runs.specs.World as runs
 use Rattle.ctl_face.specs.Prelude.{Ctl}
@@ -66,14 +66,14 @@ held-same h g places c k lone there held =
 
 -- messages come as a run has it
 module _ {D : Type 0} (p : Meaning) (drive : D → List Seat → ℕ → Drive D) (s : Setting D) where
-  abbrev R : Rules Ctl Message D
+  abbrev R : Rules Ctl Parcel D
   R = rules p drive s
 
-  delivers-one : (places : List (runs.Place Ctl)) (d : Delivery Message) (o : Option (runs.Place Ctl)) → with_delivery_at R places d o ≡ with_arrival_at places d o
+  delivers-one : (places : List (runs.Place Ctl)) (d : Delivery Parcel) (o : Option (runs.Place Ctl)) → with_delivery_at R places d o ≡ with_arrival_at places d o
   delivers-one places d None = refl
   delivers-one places d (Some q) = refl
 
-  pub delivers : (places : List (runs.Place Ctl)) (ds : List (Delivery Message)) → with_deliveries R places ds ≡ delivered places ds
+  pub delivers : (places : List (runs.Place Ctl)) (ds : List (Delivery Parcel)) → with_deliveries R places ds ≡ delivered places ds
   delivers places [] = refl
   delivers places (d ∷ ds) =
       ap (λ (qs : List (runs.Place Ctl)). with_deliveries R qs ds) (delivers-one places d (slice_get places d.receiver)) ∙ delivers (delivered_one places d) ds

@@ -6,7 +6,7 @@ pub use Rattle.world_state.specs.Ended.{ended, rested}
 pub use Rattle.world_state.specs.Opened.{IsOpening}
 pub use Rattle.world_state.specs.Closed.{IsClosed, IsRested}
 pub use Rattle.world_state.specs.Places.{IsEndedAt, IsHome, IsHomeAt, IsHomeBy, IsPutBack, IsTakenOut, Made, is_free, is_held, made_by, made_for, made_in, marks_by, place_by, place_with, places_with}
-pub use Rattle.world_state.specs.Arrivals.{CanArrive, HasRoom, HasRoomBy, Suits, SuitsBy, Takes, TakesAt, delivered, delivered_one, with_arrival_at}
+pub use Rattle.world_state.specs.Arrivals.{CanArrive, HasRoom, HasRoomBy, HaveOwnNumbers, SuitsBy, Takes, TakesAt, delivered, delivered_one, with_arrival_at}
 pub use Rattle.world_state.specs.Cycle.{HasLine, begun_at, has_stopped, next_of, stopped_by}
 pub use Rattle.world_state.specs.Driving.{AreOut, CanEnd, HasRoomToAct, IsActed, IsReadyToAct}
 pub use Rattle.world_state.specs.Requests.{HasRoomFor, IsFieldRoom}

@@ -3,16 +3,16 @@
 -- run goes on at its next cycle, in which nobody is finished. Where nobody is held, it doesn't matter which controller is handed in as
 -- the held one, so each condition is over all of them. The messages in inboxes are those that were sent and not consumed.
 use Rattle.std.specs.Prelude.{◌≡◌, ◌+◌, ◌*◌, ◌-◌, ◌<◌, ◌≤◌, ◌^◌, ℕ, Option, None, Some, List, [], length, map}
-use Rattle.std.specs.List.{All, AllPairs}
+use Rattle.std.specs.List.{All, AllPairs, flat_map}
 use Rattle.ruby_value.specs.declared.fault.Finding.{Finding}
 use Rattle.ruby_value.specs.declared.message.Delivery.{Delivery}
-use Rattle.ruby_value.specs.declared.message.Message.{Message}
+use Rattle.ctl_face.specs.declared.parcel.Parcel.{Parcel}
 use Rattle.ruby_value.specs.declared.message.MsgNo.{MsgNo}
 use Rattle.run_journal.specs.declared.entry.Entry.{Entry}
 use Rattle.run_journal.specs.declared.entry.Entry.TheVariants.{Turned}
 use Rattle.run_journal.specs.declared.event.Event.TheVariants.{Turn}
 use Rattle.run_journal.specs.declared.verdict.Verdict.{Verdict}
-use Rattle.protocol_runs.specs.Prelude.{consumed_numbers, sent_numbers, verdict_after, request_messages, seats_in}
+use Rattle.protocol_runs.specs.Prelude.{consumed_numbers, parcel_numbers, sent_numbers, verdict_after, request_messages, seats_in}
 use Rattle.protocol_runs.specs.World as runs
 use Rattle.ctl_face.specs.Prelude.{Ctl}
 use Rattle.sequencer.specs.Prelude.{Drive, after_drive, FitSeats, Seat, Seating}
@@ -28,15 +28,15 @@ use Rattle.world_state.specs.Steps.{Writes}
 abbrev pub messages_in : List Entry → ℕ
 messages_in journal = length (sent_numbers journal) - length (consumed_numbers journal)
 
-abbrev pub numbers_of : List (Delivery Message) → List MsgNo
-numbers_of requests = map (λ (r : Delivery Message). r.message.number) requests
+abbrev pub numbers_of : List (Delivery Parcel) → List MsgNo
+numbers_of requests = flat_map (λ (r : Delivery Parcel). parcel_numbers r.message) requests
 
 module _ {D : Type 0} (seats : List SeatAt) where
   -- the seats before anything was issued, and the requests of what a driver does at them as messages
   abbrev pub seating_in : Ctl → State D → Seating
   seating_in held st = record { seats = seats_in (setups_in seats) (controllers_in (places_with held st.places.items)); issued = [] }
 
-  abbrev pub requests_in : State D → Drive D → List (Delivery Message)
+  abbrev pub requests_in : State D → Drive D → List (Delivery Parcel)
   requests_in st d = request_messages (setups_in seats) (length st.places.items) st.issued st.now d.issued
 
   -- the places with the sequencers of the seats as the driver has left them

@@ -46,18 +46,22 @@ impl<D> State<D> {
         ensures store { IsSameStore store.old store.new }
         ensures outcome { OnOk result (HasRoomForOutcome store.new o.now) }
         ensures copies { OnOk result
-            (All (HasRoom (length (outcome_acts o.now).sent)) self.new.places.items) }
+            (All (HasRoom (length (outcome_acts o.now).posted)) self.new.places.items) }
         ensures events { OnOk result (2 ≤ self.new.book.event_room) }
         ensures entry { OnOk result (HasRoomForFire (outcome_acts o.now) self.new.book.entry_room) }
     {
         let lists = lists_of(o);
         self.book.reserve(2, lists.numbers(), lists.sent.len())?;
         store.reserve(o)?;
-        room_for_all(&mut self.places, lists.sent.len() as u32)
+        // Nobody has memory for more.
+        let Ok(parcels) = u32::try_from(o.posted().len()) else {
+            return Err(NoMemory);
+        };
+        room_for_all(&mut self.places, parcels)
     }
 
-    /// A scan of a controller that a worker holds has fired: its outcome is applied to the store, and its copies come to their
-    /// receivers. The outcome was sealed of this store as it is. The entry's place in the journal is answered. It makes room for one
+    /// A scan of a controller that a worker holds has fired: its outcome is applied to the store, and its copies and credits come to
+    /// their receivers. The outcome was sealed of this store as it is. The entry's place in the journal is answered. It makes room for one
     /// event more.
     pub fn fire(
         &mut self,
@@ -69,7 +73,6 @@ impl<D> State<D> {
         requires sealed { IsOutcomeFor o (ctl_of store.old) }
         requires few { (ctl_of store.old).fired + 1 < 2 ^ 64 }
         requires copies { CanArrive self.old.places.items (outcome_acts o).posted }
-        requires count { length (outcome_acts o).posted ≤ length (outcome_acts o).sent }
         ensures place { IfOk result (λ n. n ≡ length self.old.book.journal) }
         ensures ctl { OnOk result (ctl_of store.new ≡ with_one_fired (outcome_ctl o (ctl_of store.old))) }
         ensures store { IsSameStore store.old store.new }

@@ -7,7 +7,7 @@ ghost use Rattle.run_journal.specs.declared.entry.Entry.TheVariants as entry;
 ghost use Rattle.run_journal.specs.declared.entry.FireNote.{FireNote};
 ghost use Rattle.run_journal.specs.declared.event.Event.TheVariants as event;
 ghost use Rattle.ruby_value.specs.declared.message.Delivery.{Delivery};
-ghost use Rattle.ruby_value.specs.declared.message.Message.{Message};
+ghost use Rattle.ctl_face.specs.declared.parcel.Parcel.{Parcel};
 ghost use Rattle.protocol_runs.specs.Prelude.{Ends, Acts, Fired, fired_entry, is_free as is_free_in, is_held as is_held_in, IsSetting, IsMeaning, Meaning, opening_of, rules, Setting, Place as RunPlace, seats_in};
 ghost use Rattle.ctl_face.specs.Prelude.{with_one_fired, Ctl};
 ghost use Rattle.ctl_store.specs.Prelude.{ctl_of};
@@ -93,7 +93,7 @@ pub fn ends_are_steps<D>()
 pub fn fires_are_steps<D>()
     ensures { (p : Meaning) (drive : D → List Seat → ℕ → Drive D) (s : Setting D)
         (x after : Ctl) (old new : State D) (worker c : ℕ)
-        (note : FireNote) (acts : Acts) (copies : List (Delivery Message))
+        (note : FireNote) (acts : Acts) (copies : List (Delivery Parcel))
         → IsKept p drive s x old → old.verdict ≡ None → IsHeldBy worker c old.places.items
         → ((rules p drive s).scan c x old.now).outcome ≡ Fired note acts copies after
         → ((held : Ctl) → places_with held new.places.items
@@ -117,15 +117,15 @@ pub fn closes_are_steps<D>()
         → IsStep p drive s held old (event.Turn worker) held new × IsKept p drive s held new }
 {}
 
-/// The copies of a transition that fires can come to their receivers, and are no more than what it sent; and a controller that fires
-/// has fired fewer transitions in this cycle than it may.
+/// The copies and credits of a transition that fires can come to their receivers; and a controller that fires has fired fewer
+/// transitions in this cycle than it may.
 pub fn copies_can_arrive<D: Driver>()
     ensures { (p : Meaning) (s : Setting D) (x after : Ctl) (st : State D) (worker c : ℕ)
-        (note : FireNote) (acts : Acts) (copies : List (Delivery Message))
+        (note : FireNote) (acts : Acts) (copies : List (Delivery Parcel))
         → IsMeaning p → IsSetting D.least s
         → IsKept p D.drive s x st → IsHeldBy worker c st.places.items
         → ((rules p D.drive s).scan c x st.now).outcome ≡ Fired note acts copies after
-        → CanArrive st.places.items copies × (length copies ≤ length acts.sent) × (x.fired < s.limit) }
+        → CanArrive st.places.items copies × (x.fired < s.limit) }
 {}
 
 /// In the data of a run that goes on and in which nobody is held, the cycle is one of a run, and the seats are at controllers that are

@@ -2,18 +2,18 @@
 ghost use Rattle.std.specs.Prelude.{◌≡◌, ◌≢◌, ◌<◌, ◌+◌, ◌^◌, ℕ, OnOk, true, length, map, slice_set};
 ghost use Rattle.std.specs.List.{All};
 ghost use Rattle.ruby_value.specs.Prelude.{has_mark};
-ghost use Rattle.ruby_value.specs.declared.message.Message.{Message};
+ghost use Rattle.ctl_face.specs.declared.parcel.Parcel.{Parcel};
 ghost use Rattle.protocol_runs.specs.Prelude.{least_above};
-ghost use Rattle.ctl_face.specs.Prelude.{with_arrival, Ctl};
+ghost use Rattle.ctl_face.specs.Prelude.{with_parcel_arrival, Ctl};
 ghost use Rattle.ctl_store.specs.Prelude.{ctl_of};
-ghost use Rattle.world_state.specs.Arrivals.{HasRoom, Takes};
+ghost use Rattle.world_state.specs.Arrivals.{HasRoom, HaveOwnNumbers, Takes};
 ghost use Rattle.world_state.specs.Cycle.{begun_at, has_stopped};
 ghost use Rattle.world_state.specs.Places.{IsHome, is_free, made_by, marks_by, place_with, IsHomeAt, IsPutBack, IsTakenOut, made_in, places_with};
 ghost use Rattle.world_state.specs.declared.place.Keeper.TheVariants as keeper;
 
-use ctl_face::Routes;
+use ctl_face::{Parcel, Routes};
 use ctl_store::Store;
-use ruby_value::{Message, NoMemory};
+use ruby_value::NoMemory;
 use std::mem;
 
 /// A controller that nobody holds: its store, and the routes that it goes by.
@@ -88,31 +88,33 @@ impl Place {
         }
     }
 
-    /// Makes room for so many messages, or answers that there is no memory for them. Of a held controller nothing is made room for.
-    pub(crate) fn room(&mut self, messages: u32) -> Result<(), NoMemory>
+    /// Makes room for so many messages and credits, or answers that there is no memory for them. Of a held controller nothing is made
+    /// room for.
+    pub(crate) fn room(&mut self, parcels: u32) -> Result<(), NoMemory>
         ensures same { (held : Ctl) → place_with held self.new ≡ place_with held self.old }
         ensures made { made_by self.new.keeper ≡ made_by self.old.keeper }
-        ensures ok { OnOk result (HasRoom messages self.new) }
+        ensures ok { OnOk result (HasRoom parcels self.new) }
     {
         match &mut self.keeper {
-            Keeper::World(kept) => kept.store.room(messages),
+            Keeper::World(kept) => kept.store.room(parcels),
             Keeper::Worker(_) => Ok(()),
         }
     }
 
-    /// A message comes to the controller, which nobody holds. It takes no memory.
-    pub(crate) fn arrive(&mut self, m: Message)
-        requires takes { Takes m self.old }
+    /// A message or a credit comes to the controller, which nobody holds. It takes no memory.
+    pub(crate) fn arrive(&mut self, p: Parcel)
+        requires takes { Takes p self.old }
         requires room { HasRoom 1 self.old }
         ensures after { (held : Ctl) → place_with held self.new
-            ≡ (let p = place_with held self.old in record p { controller = with_arrival p.controller m }) }
+            ≡ (let q = place_with held self.old in
+            record q { controller = with_parcel_arrival q.controller p }) }
         ensures made { made_by self.new.keeper ≡ made_by self.old.keeper }
         ensures room { (more : ℕ) → HasRoom (more + 1) self.old → HasRoom more self.new }
-        ensures others { (n : Message) → n.number ≢ m.number → Takes n self.old
-            → Takes n self.new }
+        ensures others { (other : Parcel) → HaveOwnNumbers p other → Takes other self.old
+            → Takes other self.new }
     {
         match &mut self.keeper {
-            Keeper::World(kept) => kept.store.arrive(m),
+            Keeper::World(kept) => kept.store.arrive(p),
             Keeper::Worker(_) => unreachable!(),
         }
     }

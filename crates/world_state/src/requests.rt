@@ -1,4 +1,4 @@
-//! The messages of the requests that a driver issues, and how messages come to controllers.
+//! The messages of the requests that a driver issues, and how messages and credits come to controllers.
 ghost use Rattle.std.specs.Prelude.{◌≡◌, ◌<◌, ◌≤◌, ◌+◌, ◌++◌, ◌^◌, ℕ, [], IfOk, length, slice_get, ◌∷◌, List, OnOk, reverse, vec_len};
 ghost use Rattle.std.specs.List.{All};
 ghost use Rattle.ruby_value.specs.Prelude.{IsRequest};
@@ -8,12 +8,13 @@ ghost use Rattle.world_state.specs.Seated.{setups_in};
 ghost use Rattle.world_state.specs.Requests.{HasRoomFor, IsFieldRoom};
 ghost use Rattle.world_state.specs.Turned.{numbers_of};
 ghost use Rattle.ruby_value.specs.declared.message.Delivery.{Delivery};
-ghost use Rattle.ruby_value.specs.declared.message.Message.{Message};
+ghost use Rattle.ctl_face.specs.declared.parcel.Parcel.{Parcel};
 ghost use Rattle.ctl_face.specs.Prelude.{Ctl};
 ghost use Rattle.world_state.specs.Arrivals.{CanArrive, HasRoom, TakesAt, delivered, delivered_one};
 ghost use Rattle.world_state.specs.Places.{made_in, places_with};
 
 use crate::{Place, SeatAt};
+use ctl_face::Parcel;
 use ruby_value::{Ask, Asked, Delivery, Fields, Message, MsgNo, NoMemory, Seq, Value};
 use sequencer::Issued;
 use std::alloc::Global;
@@ -22,7 +23,7 @@ use std::alloc::Global;
 #[derive(Drop)]
 pub(crate) struct Requests {
     fields: Vec<Vec<Value>>,
-    messages: Vec<Delivery<Message>>,
+    messages: Vec<Delivery<Parcel>>,
     numbers: Vec<MsgNo>,
 }
 
@@ -96,13 +97,13 @@ impl Requests {
         self.numbers.push_reserved(number);
         self.messages.push_reserved(Delivery {
             receiver: seat.controller,
-            message: Message {
+            message: Parcel::Message(Message {
                 number,
                 buffer: seat.queue,
                 arrival: now + 1,
                 recycled: false,
                 fields: request_fields(room, i.asked),
-            },
+            }),
         });
     }
 
@@ -130,7 +131,7 @@ impl Requests {
     }
 
     /// The messages and their numbers.
-    pub(crate) fn into_parts(self) -> (Seq<Delivery<Message>>, Seq<MsgNo>)
+    pub(crate) fn into_parts(self) -> (Seq<Delivery<Parcel>>, Seq<MsgNo>)
         ensures messages { result.0 ≡ self.messages.items }
         ensures numbers { result.1 ≡ self.numbers.items }
     {
@@ -138,26 +139,26 @@ impl Requests {
     }
 }
 
-/// Makes room for so many messages at each controller that nobody holds, or answers that there is no memory for them.
-pub fn room_for_all(places: &mut [Place], messages: u32) -> Result<(), NoMemory>
+/// Makes room for so many messages and credits at each controller that nobody holds, or answers that there is no memory for them.
+pub fn room_for_all(places: &mut [Place], parcels: u32) -> Result<(), NoMemory>
     ensures same { (held : Ctl) → places_with held places.new ≡ places_with held places.old }
     ensures made { made_in places.new ≡ made_in places.old }
-    ensures ok { OnOk result (All (HasRoom messages) places.new) }
+    ensures ok { OnOk result (All (HasRoom parcels) places.new) }
 {
     for place in places.iter_mut() {
-        place.room(messages)?;
+        place.room(parcels)?;
     }
     Ok(())
 }
 
-// A message comes to its receiver.
-fn deliver_one(places: &mut Vec<Place>, d: Delivery<Message>)
+// A message or a credit comes to its receiver.
+fn deliver_one(places: &mut Vec<Place>, d: Delivery<Parcel>)
     requires takes { TakesAt places.old.items d }
     requires room { All (HasRoom 1) places.old.items }
     ensures places { (held : Ctl) → places_with held places.new.items
         ≡ delivered_one (places_with held places.old.items) d }
     ensures made { made_in places.new.items ≡ made_in places.old.items }
-    ensures can { (ds : List (Delivery Message)) → CanArrive places.old.items (d ∷ ds)
+    ensures can { (ds : List (Delivery Parcel)) → CanArrive places.old.items (d ∷ ds)
         → CanArrive places.new.items ds }
     ensures room { (n : ℕ) → All (HasRoom (n + 1)) places.old.items
         → All (HasRoom n) places.new.items }
@@ -167,8 +168,8 @@ fn deliver_one(places: &mut Vec<Place>, d: Delivery<Message>)
     place.arrive(message);
 }
 
-// Messages come to their receivers, from the last one on.
-fn deliver_all(places: &mut Vec<Place>, mut newest_first: Vec<Delivery<Message>>)
+// Messages and credits come to their receivers, from the last one on.
+fn deliver_all(places: &mut Vec<Place>, mut newest_first: Vec<Delivery<Parcel>>)
     requires can { CanArrive places.old.items (reverse newest_first.items) }
     requires room { All (HasRoom (vec_len newest_first)) places.old.items }
     ensures places { (held : Ctl) → places_with held places.new.items
@@ -180,9 +181,9 @@ fn deliver_all(places: &mut Vec<Place>, mut newest_first: Vec<Delivery<Message>>
     }
 }
 
-/// The messages come to their receivers, one after another. It takes no memory.
+/// Messages and credits come to their receivers, one after another. It takes no memory.
 #[tactic(auto, using(crate::proofs::ArrivingAt::twice_reversed))]
-pub fn deliver(places: &mut Vec<Place>, deliveries: Seq<Delivery<Message>>)
+pub fn deliver(places: &mut Vec<Place>, deliveries: Seq<Delivery<Parcel>>)
     requires can { CanArrive places.old.items deliveries }
     requires room { All (HasRoom (length deliveries)) places.old.items }
     ensures places { (held : Ctl) → places_with held places.new.items

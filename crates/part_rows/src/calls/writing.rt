@@ -10,7 +10,7 @@ use acts::set;
 use built_in_acts::built_in;
 use controller_rows::{is_delivered, is_issued, message, one_field, opened};
 use ctl_face::{Local, NoMemory, Routes};
-use ctl_store::{Draft, Store};
+use ctl_store::{Draft, Scratch, Store};
 use example_texts::RowText;
 use ruby_outside::{Got, Library};
 use ruby_value::{MsgNo, Ref, Value};
@@ -75,7 +75,10 @@ fn add_groups(rows: &mut RowText, node: &Store, routes: &Routes, calls: &str)
     requires { GoesOn node.now routes.now NOW }
 {
     for group in calls.split("\n\n") {
-        let mut draft = Draft::on(rows.alloc(), node, routes, 42, NOW);
+        let Ok(scratch) = Scratch::new(rows.alloc()) else {
+            return rows.lose();
+        };
+        let mut draft = Draft::on(scratch, node, routes, 42, NOW);
         add_group(rows, &mut draft, group);
         drop(draft);
     }

@@ -62,6 +62,11 @@ fn add_routes(rows: &mut RowText, routes: &Routes) {
             add_receivers(rows, controller, buffers.as_slice());
         }
     }
+    for (controller, buffer, size) in &routes.slots {
+        rows.show("; size ", controller);
+        rows.show(".", buffer);
+        rows.show(" ", size);
+    }
 }
 
 fn add_sizes(rows: &mut RowText, sizes: &Sizes) {

@@ -4,9 +4,11 @@ use Rattle.ctl_store.specs.Prelude.{ctl_of, machine_of}
 use Rattle.controller_rows.proofs.Arriving.{arrived_goes, new_in_none, same_goes}
 use Rattle.controller_rows.proofs.stores.is_delivered.Goals as goal
 
-pub arrive-requires-clause-new : goal.arrive-requires-clause-new
-arrive-requires-clause-new c =
-    new_in_none (ctl_of c.args.store.now) (ctl_of c.room.new.self) c.args.m.number c.room.ensures.same (c.is_empty.ensures c.if-not-is_empty.false)
+pub arrive-requires-clause-takes : goal.arrive-requires-clause-takes
+arrive-requires-clause-takes c = (
+  new_in_none (ctl_of c.args.store.now) (ctl_of c.room.new.self) c.args.m.number c.room.ensures.same (c.is_empty.ensures c.if-not-is_empty.false),
+  search rules,
+)
 
 pub returns-clause-goes : goal.returns-clause-goes
 returns-clause-goes c =

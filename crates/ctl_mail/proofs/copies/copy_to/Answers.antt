@@ -32,11 +32,11 @@ returns-then-ordered-clause-after c =
     copy-as me old.counts.sent mail.sent c.args.receiver c.unwrap_or-buffer.result to arrival at c.args.fields sent
     (c.unwrap_or-buffer.ensures ∙ ap (λ (o : Option ℕ). unwrap_or o 0) c.receiving_buffer.ensures) arrives in
     let words : drawn ≡ has_jitter actor = c.is_some-drawn.ensures ∙ are-words actor old.counts.drawn c.args.words.now c.requires.words in
-    let final : told_by c.keep_act.new.self ≡ told_with_act (NetworkLast c.args.network c.args.receiver arrival) (told_with_copy me drawn kept old) =
+    let final : told_by c.keep_act.new.self ≡ told_with_act (NetworkLast c.args.network c.args.receiver arrival) (told_with_copy me c.args.routes.now drawn kept old) =
     c.keep_act.ensures.after ∙ ap (told_with_act (NetworkLast c.args.network c.args.receiver arrival)) c.keep_copy.ensures.after in
     ap (changed_view first) final
-    ∙ (view-ordered first me c.args.network old drawn kept
-    ∙ one-as first me c.args.network old drawn (has_jitter actor) true (is_ordered c.args.routes.now c.args.network) kept wanted words (sym c.if-ordered.true ∙ c.is_ordered-ordered.ensures) same)
+    ∙ (view-ordered first me c.args.network c.args.routes.now old drawn kept
+    ∙ one-as first me c.args.network c.args.routes.now old drawn (has_jitter actor) true (is_ordered c.args.routes.now c.args.network) kept wanted words (sym c.if-ordered.true ∙ c.is_ordered-ordered.ensures) same)
 
 pub returns-then-ordered-clause-changes : goal.returns-then-ordered-clause-changes
 returns-then-ordered-clause-changes c =
@@ -54,11 +54,11 @@ returns-then-ordered-clause-changes c =
     let due = old.cycle + c.args.latency + c.path_to.result + c.next_jitter-jitter.result in
     let ahead : old.cycle < due = omega (arith, c.requires.latency.0) in
     let later : old.cycle < arrival = later-than old.cycle due last arrival c.is_ordered-ordered.result c.network_arrival-arrival.ensures ahead in
-    let final : told_by c.keep_act.new.self ≡ told_with_act (NetworkLast c.args.network c.args.receiver arrival) (told_with_copy me drawn kept old) =
+    let final : told_by c.keep_act.new.self ≡ told_with_act (NetworkLast c.args.network c.args.receiver arrival) (told_with_copy me c.args.routes.now drawn kept old) =
     c.keep_act.ensures.after ∙ ap (told_with_act (NetworkLast c.args.network c.args.receiver arrival)) c.keep_copy.ensures.after in
     subst (AreOf store) (sym final)
-    (are-last store c.args.network c.args.receiver arrival (told_with_copy me drawn kept old)
-    (are-copied store me drawn kept old c.requires.cycle c.requires.may later number c.requires.changes))
+    (are-last store c.args.network c.args.receiver arrival (told_with_copy me c.args.routes.now drawn kept old)
+    (are-copied store me c.args.routes.now drawn kept old c.requires.cycle c.requires.may later number c.requires.changes))
 
 pub returns-then-ordered-clause-may : goal.returns-then-ordered-clause-may
 returns-then-ordered-clause-may c =
@@ -72,16 +72,16 @@ returns-then-ordered-clause-may c =
     let kept : Delivery Message = copy_at me old.counts.sent c.args.receiver c.unwrap_or-buffer.result arrival c.args.fields in
     let sent : old.counts.sent ≡ mail.sent = ap (λ (k : SendCounts). k.sent) c.requires.changes.1.counts in
     let number : kept.message.number ≡ record { sender = me; count = mail.sent } = λ i. record { sender = me; count = sent i } in
-    let final : told_by c.keep_act.new.self ≡ told_with_act (NetworkLast c.args.network c.args.receiver arrival) (told_with_copy me drawn kept old) =
+    let final : told_by c.keep_act.new.self ≡ told_with_act (NetworkLast c.args.network c.args.receiver arrival) (told_with_copy me c.args.routes.now drawn kept old) =
     c.keep_act.ensures.after ∙ ap (told_with_act (NetworkLast c.args.network c.args.receiver arrival)) c.keep_copy.ensures.after in
     λ more may.
     subst (MaySend me old.cycle more) (sym (ap (changed_mail first) final))
-    (may-last first me c.args.network c.args.receiver arrival (told_with_copy me drawn kept old) more (may-copied first me drawn kept old more number may))
+    (may-last first me c.args.network c.args.receiver arrival (told_with_copy me c.args.routes.now drawn kept old) more (may-copied first me c.args.routes.now drawn kept old more number may))
 
 pub returns-then-ordered-clause-space : goal.returns-then-ordered-clause-space
 returns-then-ordered-clause-space c = λ more space.
-    c.keep_act.ensures.room (3 * more) more
-    (c.keep_copy.ensures.room (3 * more + 1) more (space-as c.args.changes.now (3 * more + 1 + 2) (3 * (more + 1)) (more + 1) (omega arith) space))
+    c.keep_act.ensures.room (4 * more) more
+    (c.keep_copy.ensures.room (4 * more + 1) more (space-as c.args.changes.now (4 * more + 1 + 3) (4 * (more + 1)) (more + 1) (omega arith) space))
 
 pub returns-else-ordered-clause-after : goal.returns-else-ordered-clause-after
 returns-else-ordered-clause-after c =
@@ -108,8 +108,8 @@ returns-else-ordered-clause-after c =
     (c.unwrap_or-buffer.ensures ∙ ap (λ (o : Option ℕ). unwrap_or o 0) c.receiving_buffer.ensures) arrives in
     let words : drawn ≡ has_jitter actor = c.is_some-drawn.ensures ∙ are-words actor old.counts.drawn c.args.words.now c.requires.words in
     ap (changed_view first) c.keep_copy.ensures.after
-    ∙ (view-unordered first me c.args.network old drawn kept
-    ∙ one-as first me c.args.network old drawn (has_jitter actor) false (is_ordered c.args.routes.now c.args.network) kept wanted words (sym c.if-ordered.false ∙ c.is_ordered-ordered.ensures) same)
+    ∙ (view-unordered first me c.args.network c.args.routes.now old drawn kept
+    ∙ one-as first me c.args.network c.args.routes.now old drawn (has_jitter actor) false (is_ordered c.args.routes.now c.args.network) kept wanted words (sym c.if-ordered.false ∙ c.is_ordered-ordered.ensures) same)
 
 pub returns-else-ordered-clause-changes : goal.returns-else-ordered-clause-changes
 returns-else-ordered-clause-changes c =
@@ -128,7 +128,7 @@ returns-else-ordered-clause-changes c =
     let ahead : old.cycle < due = omega (arith, c.requires.latency.0) in
     let later : old.cycle < arrival = later-than old.cycle due last arrival c.is_ordered-ordered.result c.network_arrival-arrival.ensures ahead in
     subst (AreOf store) (sym c.keep_copy.ensures.after)
-    (are-copied store me drawn kept old c.requires.cycle c.requires.may later number c.requires.changes)
+    (are-copied store me c.args.routes.now drawn kept old c.requires.cycle c.requires.may later number c.requires.changes)
 
 pub returns-else-ordered-clause-may : goal.returns-else-ordered-clause-may
 returns-else-ordered-clause-may c =
@@ -143,4 +143,4 @@ returns-else-ordered-clause-may c =
     let sent : old.counts.sent ≡ mail.sent = ap (λ (k : SendCounts). k.sent) c.requires.changes.1.counts in
     let number : kept.message.number ≡ record { sender = me; count = mail.sent } = λ i. record { sender = me; count = sent i } in
     λ more may.
-    subst (MaySend me old.cycle more) (sym (ap (changed_mail first) c.keep_copy.ensures.after)) (may-copied first me drawn kept old more number may)
+    subst (MaySend me old.cycle more) (sym (ap (changed_mail first) c.keep_copy.ensures.after)) (may-copied first me c.args.routes.now drawn kept old more number may)

@@ -19,7 +19,7 @@ loop-clone-init c =
       clones = c.requires.clones;
       are = c.requires.changes;
       may = subst (λ (xs : List ℕ). MaySend c.args.me told.cycle (length xs) (changed_mail first told)) all c.requires.may;
-      space = subst (λ (xs : List ℕ). HasSpace c.args.changes.now (3 * length xs) (length xs)) all c.requires.space;
+      space = subst (λ (xs : List ℕ). HasSpace c.args.changes.now (4 * length xs) (length xs)) all c.requires.space;
       words = c.words_from-words.ensures;
       cycle = refl;
       progress =
@@ -73,7 +73,7 @@ copy_to-requires-clause-space c =
     let there : slice_get left 0 ≡ Some r = sym c.in-Some-least_from.ensures in
     let is : left ≡ r ∷ rest = (next-member members (rise-from members c.count-count.ensures.increasing) from r there).1 in
     let count : length left ≡ length rest + 1 = omega (arith, ap length is) in
-    space-fewer c.loop-clone.changes 3 (3 * length left) 1 (length left) (omega (arith, count)) (omega (arith, count)) inv.space
+    space-fewer c.loop-clone.changes 4 (4 * length left) 1 (length left) (omega (arith, count)) (omega (arith, count)) inv.space
 
 pub copy_to-requires-clause-words : goal.copy_to-requires-clause-words
 copy_to-requires-clause-words c = c.loop-clone.invariant.words
@@ -117,7 +117,7 @@ loop-clone-preserved c =
       may = subst (λ now. MaySend c.args.me now (length rest) (changed_mail first new)) inv.cycle (c.copy_to.ensures.may (length rest) may);
       space =
           c.copy_to.ensures.space (length rest)
-          (space-fewer c.loop-clone.changes (3 * (length rest + 1)) (3 * length left) (length rest + 1) (length left) (omega (arith, count)) (omega (arith, count)) inv.space);
+          (space-fewer c.loop-clone.changes (4 * (length rest + 1)) (4 * length left) (length rest + 1) (length left) (omega (arith, count)) (omega (arith, count)) inv.space);
       words = c.copy_to.ensures.words;
       cycle = c.copy_to.ensures.cycle ∙ inv.cycle;
       progress = more-progress actor c.args.network c.args.latency c.args.fields start.cycle first start told new members r left rest is one inv.progress;
@@ -154,7 +154,7 @@ copy_to-requires-in-Some-least_from-2-clause-space c =
     let there : slice_get left 0 ≡ Some r = sym c.in-Some-least_from-2.ensures in
     let is : left ≡ r ∷ rest = (next-member members (rise-from members c.count-count.ensures.increasing) from r there).1 in
     let count : length left ≡ length rest + 1 = omega (arith, ap length is) in
-    space-fewer c.loop-clone.changes 3 (3 * length left) 1 (length left) (omega (arith, count)) (omega (arith, count)) inv.space
+    space-fewer c.loop-clone.changes 4 (4 * length left) 1 (length left) (omega (arith, count)) (omega (arith, count)) inv.space
 
 pub copy_to-requires-in-Some-least_from-2-clause-words : goal.copy_to-requires-in-Some-least_from-2-clause-words
 copy_to-requires-in-Some-least_from-2-clause-words c = c.loop-clone.invariant.words

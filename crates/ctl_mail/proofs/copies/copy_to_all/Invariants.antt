@@ -11,7 +11,7 @@ invariant-loop-clone l = record {
   clones : All (λ (f : List Value). f ≡ l.fn.fields) l.clones.items;
   are : AreOf l.store (told_by l.changes);
   may : MaySend l.me l.initial.changes.cycle (length (members_from l.from l.members)) (changed_mail (mail_of l.store) (told_by l.changes));
-  space : HasSpace l.changes (3 * length (members_from l.from l.members)) (length (members_from l.from l.members));
+  space : HasSpace l.changes (4 * length (members_from l.from l.members)) (length (members_from l.from l.members));
   words : AreNext (actor_of l.me l.seed l.routes) l.changes.counts.drawn l.words;
   cycle : l.changes.cycle ≡ l.initial.changes.cycle;
   progress : Progress (actor_of l.me l.seed l.routes) l.network l.latency l.fn.fields l.initial.changes.cycle (mail_of l.store) (told_by l.initial.changes) (told_by l.changes) l.members (members_from l.from l.members);

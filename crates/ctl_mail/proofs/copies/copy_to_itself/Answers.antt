@@ -21,9 +21,9 @@ returns-then-ordered-clause-after c =
     let at = local_arrival c.args.ordered mail c.args.buffer c.args.latency old.cycle in
     let wanted : Delivery Message = copy_at me mail.sent me c.args.buffer at c.args.fields in
     let same : kept ≡ wanted = copy-as me old.counts.sent mail.sent me c.args.buffer c.args.buffer arrival at c.args.fields sent refl c.local_arrival-arrival.ensures in
-    let final : told_by c.keep_act.new.self ≡ told_with_act (LocalLast c.args.buffer arrival) (told_with_copy me false kept old) =
+    let final : told_by c.keep_act.new.self ≡ told_with_act (LocalLast c.args.buffer arrival) (told_with_copy me c.args.routes.now false kept old) =
     c.keep_act.ensures.after ∙ ap (told_with_act (LocalLast c.args.buffer arrival)) c.keep_copy.ensures.after in
-    λ seed routes. ap (changed_view first) final ∙ (view-local-ordered first me old c.args.buffer kept ∙ local-as first me old true c.args.ordered c.args.buffer kept wanted (sym c.if-ordered.true) same)
+    λ seed. ap (changed_view first) final ∙ (view-local-ordered first me c.args.routes.now old c.args.buffer kept ∙ local-as first me c.args.routes.now old true c.args.ordered c.args.buffer kept wanted (sym c.if-ordered.true) same)
 
 pub returns-then-ordered-clause-changes : goal.returns-then-ordered-clause-changes
 returns-then-ordered-clause-changes c =
@@ -40,11 +40,11 @@ returns-then-ordered-clause-changes c =
     let due = old.cycle + c.args.latency in
     let ahead : old.cycle < due = omega (arith, c.requires.latency.0) in
     let later : old.cycle < arrival = later-than old.cycle due last arrival c.args.ordered c.local_arrival-arrival.ensures ahead in
-    let final : told_by c.keep_act.new.self ≡ told_with_act (LocalLast c.args.buffer arrival) (told_with_copy me false kept old) =
+    let final : told_by c.keep_act.new.self ≡ told_with_act (LocalLast c.args.buffer arrival) (told_with_copy me c.args.routes.now false kept old) =
     c.keep_act.ensures.after ∙ ap (told_with_act (LocalLast c.args.buffer arrival)) c.keep_copy.ensures.after in
     subst (AreOf store) (sym final)
-    (are-local-last store c.args.buffer arrival (told_with_copy me false kept old)
-    (are-copied store me false kept old c.requires.cycle c.requires.may later number c.requires.changes))
+    (are-local-last store c.args.buffer arrival (told_with_copy me c.args.routes.now false kept old)
+    (are-copied store me c.args.routes.now false kept old c.requires.cycle c.requires.may later number c.requires.changes))
 
 pub returns-else-ordered-clause-after : goal.returns-else-ordered-clause-after
 returns-else-ordered-clause-after c =
@@ -59,7 +59,7 @@ returns-else-ordered-clause-after c =
     let at = local_arrival c.args.ordered mail c.args.buffer c.args.latency old.cycle in
     let wanted : Delivery Message = copy_at me mail.sent me c.args.buffer at c.args.fields in
     let same : kept ≡ wanted = copy-as me old.counts.sent mail.sent me c.args.buffer c.args.buffer arrival at c.args.fields sent refl c.local_arrival-arrival.ensures in
-    λ seed routes. ap (changed_view first) c.keep_copy.ensures.after ∙ (view-local-unordered first me old c.args.buffer kept ∙ local-as first me old false c.args.ordered c.args.buffer kept wanted (sym c.if-ordered.false) same)
+    λ seed. ap (changed_view first) c.keep_copy.ensures.after ∙ (view-local-unordered first me c.args.routes.now old c.args.buffer kept ∙ local-as first me c.args.routes.now old false c.args.ordered c.args.buffer kept wanted (sym c.if-ordered.false) same)
 
 pub returns-else-ordered-clause-changes : goal.returns-else-ordered-clause-changes
 returns-else-ordered-clause-changes c =
@@ -77,4 +77,4 @@ returns-else-ordered-clause-changes c =
     let ahead : old.cycle < due = omega (arith, c.requires.latency.0) in
     let later : old.cycle < arrival = later-than old.cycle due last arrival c.args.ordered c.local_arrival-arrival.ensures ahead in
     subst (AreOf store) (sym c.keep_copy.ensures.after)
-    (are-copied store me false kept old c.requires.cycle c.requires.may later number c.requires.changes)
+    (are-copied store me c.args.routes.now false kept old c.requires.cycle c.requires.may later number c.requires.changes)

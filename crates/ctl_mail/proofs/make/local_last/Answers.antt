@@ -7,4 +7,6 @@ returns-clause-places c = record {
   buffers = λ buffer. omega arith;
   networks = λ network n has. no-more c.args.store.now.network_last.items network n (n + 1) (omega arith) has;
   locals = c.put-before.ensures.room;
+  lent = omega arith;
+  credits = omega arith;
 }

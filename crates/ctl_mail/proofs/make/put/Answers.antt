@@ -18,6 +18,7 @@ pub returns-clause-mail : goal.returns-clause-mail
 returns-clause-mail c = record {
   holds = (made-put c.args.store.now c.put.new.buffers c.requires.mail c.put.ensures.count c.args.m c.requires.new c.put.ensures.after).1.holds;
   marks_ascend = subst IsStrictlyIncreasing (sym c.put-2.ensures.after) (IsStrictlyIncreasing-with_mark c.args.store.now.marks.items c.args.m.arrival c.requires.mail.marks_ascend);
+  credits_ascend = c.requires.mail.credits_ascend;
 }
 
 pub returns-clause-places : goal.returns-clause-places
@@ -25,4 +26,6 @@ returns-clause-places c = record {
   buffers = λ buffer. (let so : room_of c.args.store.now.buffers.items buffer ≤ room_of c.put.new.buffers.items buffer + 1 = c.put.ensures.room buffer in omega arith);
   networks = λ network n has. no-more c.args.store.now.network_last.items network n (n + 1) (omega arith) has;
   locals = omega arith;
+  lent = omega arith;
+  credits = omega arith;
 }

@@ -1,17 +1,18 @@
 use Rattle.std.proofs.Common.{◌≡◌, Ok, Some, sym, ap, subst, ◌∙◌}
 use Rattle.std.specs.Option.{option_copied}
 use Rattle.ctl_face.specs.Prelude.{front}
-use Rattle.ctl_mail.specs.Prelude.{mail_of, AreOf, Told, changed_mail, changed_view, told_by}
-use Rattle.ctl_mail.proofs.Acts.{are-of-pop, does-pop}
+use Rattle.ctl_mail.specs.Prelude.{mail_of, actor_of, AreOf, Told, changed_mail, changed_view, told_by}
+use Rattle.ctl_mail.proofs.Dequeues.{are-of-dequeue, does-dequeue}
 use Rattle.ctl_mail.proofs.scan.pop.Goals as goal
 
 pub returns-clause-does : goal.returns-clause-does
-returns-clause-does c =
+returns-clause-does c = λ seed.
     let mail = mail_of c.args.store.now in
     let old = told_by c.args.changes.now in
     let m = c.in-Some.m.now in
     let is : front (changed_mail mail old) c.args.buffer old.cycle ≡ Some m = sym c.peek.ensures ∙ ap option_copied c.in-Some.is in
-    does-pop mail old c.args.buffer m is ∙ ap (λ (t : Told). Ok (changed_view mail t)) (sym c.in_ok-keep_pop.ensures.ok)
+    does-dequeue mail old (actor_of c.args.me seed c.args.routes.now) c.args.buffer m is
+    ∙ ap (λ (t : Told). Ok (changed_view mail t)) (sym (c.in_ok-keep_dequeued.ensures.ok seed))
 
 pub returns-clause-changes : goal.returns-clause-changes
 returns-clause-changes c =
@@ -19,4 +20,7 @@ returns-clause-changes c =
     let old = told_by c.args.changes.now in
     let m = c.in-Some.m.now in
     let is : front (changed_mail mail old) c.args.buffer old.cycle ≡ Some m = sym c.peek.ensures ∙ ap option_copied c.in-Some.is in
-    subst (AreOf c.args.store.now) (sym c.in_ok-keep_pop.ensures.ok) (are-of-pop c.args.store.now old c.args.buffer m is c.requires.changes)
+    subst (AreOf c.args.store.now) (sym (c.in_ok-keep_dequeued.ensures.ok 0)) (are-of-dequeue c.args.store.now old (actor_of c.args.me 0 c.args.routes.now) c.args.buffer m is c.requires.changes)
+
+pub returns-clause-cycle : goal.returns-clause-cycle
+returns-clause-cycle c = ap (λ (t : Told). t.cycle) (c.in_ok-keep_dequeued.ensures.ok 0)

@@ -21,7 +21,7 @@ returns-in-Local-clause-does c =
     let ok = judged c.args.latency c.latency_of.result c.in-Some.later c.ranges.latency c.latency_of.ensures.value c.in-Some.is in
     subst (λ (r : Result Sending Fault). MailDoes (view_after_sending c.args.me old r) c.send_to_itself.result old new)
     (sym (sends-on machine actor old.mail c.args.buffer c.args.latency c.args.fields c.args.changes.now.cycle c.in-Some.later c.in-Some-get.setup.now place.Local ok there c.in-Local.is))
-    (c.send_to_itself.ensures.does c.args.seed c.args.routes.now)
+    (c.send_to_itself.ensures.does c.args.seed)
 
 pub returns-in_err-members-in-To-clause-does : goal.returns-in_err-members-in-To-clause-does
 returns-in_err-members-in-To-clause-does c = without_memory _ _ _ _ c.from_residual.ensures.1 refl

@@ -36,6 +36,8 @@ returns-clause-places c = record {
   networks = λ network n has.
       c.take.ensures.places.networks network n (no-more c.args.store.now.network_last.items network (n + 0) (n + 1) (omega arith) has);
   locals = omega (arith, c.take.ensures.places.locals);
+  lent = omega (arith, c.take.ensures.places.lent);
+  credits = omega (arith, c.take.ensures.places.credits);
 }
 
 pub returns-in_default-clause-places : goal.returns-in_default-clause-places

@@ -1,11 +1,14 @@
-use Rattle.std.proofs.Common.{◌<◌, length, arith}
-use Rattle.ctl_mail.specs.Prelude.{told_by}
-use Rattle.ctl_mail.proofs.Founds.{stalled-more}
+use Rattle.std.proofs.Common.{OnOk, sym, subst}
+use Rattle.ctl_mail.specs.declared.moves.Waking.{Waking}
+use Rattle.ctl_mail.specs.Prelude.{Adds, IsWokenKept, told_by}
 use Rattle.ctl_mail.proofs.wakes.add_stalled.Goals as goal
 
-pub loop-i-preserved : goal.loop-i-preserved
-loop-i-preserved c =
-    let stalled = c.args.stalls.now.kept in
-    let within : c.loop-i.i < length stalled = omega (arith, c.loop-i-test.true, c.len-i-end.ensures.count) in
-    stalled-more (told_by c.args.changes.now) c.args.waking stalled c.loop-i.i c.at-s.result.now within c.at-s.ensures
-    c.args.numbers.now.items c.loop-i.numbers.items c.add_if_woken.new.numbers.items c.loop-i.invariant c.in_ok-add_if_woken.ensures
+pub returns-in-Line : goal.returns-in-Line
+returns-in-Line c =
+    subst (λ (w : Waking). OnOk c.add_under.result (Adds c.args.numbers.now.items (IsWokenKept c.args.stalls.now.kept (told_by c.args.changes.now) w) c.add_under.new.numbers.items))
+    (sym c.in-Line.is) c.add_under.ensures
+
+pub returns-in-All : goal.returns-in-All
+returns-in-All c =
+    subst (λ (w : Waking). OnOk c.add_all.result (Adds c.args.numbers.now.items (IsWokenKept c.args.stalls.now.kept (told_by c.args.changes.now) w) c.add_all.new.numbers.items))
+    (sym c.in-All.is) c.add_all.ensures

@@ -55,4 +55,6 @@ returns-clause-places c = record {
       omega arith;
   networks = λ network n has. no-more c.args.store.now.network_last.items network n (n + 0) (omega arith) has;
   locals = omega arith;
+  lent = omega arith;
+  credits = omega arith;
 }

@@ -1,51 +1,19 @@
-use Rattle.std.proofs.Common.{Result, subst}
-use Rattle.ruby_base.specs.declared.memory.NoMemory.{NoMemory}
-use Rattle.ctl_store.specs.Prelude.{view_of}
-use Rattle.body_meaning.specs.declared.frame.RoundEnd.{RoundEnd}
-use Rattle.body_meaning.specs.Prelude.{IsRoundOf}
-use Rattle.protocol_meaning.specs.Prelude.{scan_of}
-use Rattle.one_worker.proofs.HeldScans.{fired-is, full-is, idle-is, may-scan, stop-is}
-use Rattle.one_worker.proofs.scanning.scan.Goals.{in-Full, in-Idle, in-Stop}
+use Rattle.world_events.proofs.Stays.{holds-same}
+use Rattle.one_worker.proofs.HeldScans.{same-then, scanned-same}
 use Rattle.one_worker.proofs.scanning.scan.Goals as goal
 
-pub round-requires : goal.round-requires
-round-requires g c =
-    let v = c.args.world.now in
-    let before = view_of c.draft-draft.result in
-    let lawful = c.settings_are_lawful.ensures.enough v.trees v.topology v.limits.seed v.limits.cycles v.limits.limit v.opening c.law.ensures.fits c.law.ensures.cycles c.law.ensures.enough in
-    may-scan g.D.Driver.drive g.D.Driver.least v c.args.worker c.args.held.now c.requires.holds lawful before c.draft-draft.ensures c.law.ensures.fits c.law-2.ensures
-    (g.P.Protocol.serves c.args.protocol.now) c.requires.serves
+pub scan_in-requires-clause-holds : goal.scan_in-requires-clause-holds
+scan_in-requires-clause-holds g c κs within =
+    holds-same g.D.Driver.drive c.args.world.now c.args.worker c.args.held.now c.take_scratch.new.held c.take_scratch.ensures c.requires.holds
 
-pub returns-in-Fired : goal.returns-in-Fired
-returns-in-Fired g c =
-    let v = c.args.world.now in
-    let h = c.args.held.now in
-    let before = view_of c.draft-draft.result in
-    let after = view_of c.round.new.local in
-    let lawful = c.settings_are_lawful.ensures.enough v.trees v.topology v.limits.seed v.limits.cycles v.limits.limit v.opening c.law.ensures.fits c.law.ensures.cycles c.law.ensures.enough in
-    let does = subst (λ (r : Result RoundEnd NoMemory). IsRoundOf (scan_of v.trees h.machine h.limit h.fired before) r after before) c.in_ok-end.was (c.round.ensures v.trees c.requires.serves) in
-    fired-is g.D.Driver.drive g.D.Driver.least v c.args.worker h c.requires.holds lawful before after c.draft-draft.ensures c.in_ok-end.end does
-    c.in-Fired.note c.seal.result c.in-Fired.is c.seal.ensures.outcome
+pub returns-clause-same : goal.returns-clause-same
+returns-clause-same g c = same-then c.args.held.now c.take_scratch.new.held c.put_scratch.new.held c.take_scratch.ensures c.put_scratch.ensures
 
-pub returns : goal.returns
-returns g c =
-    let v = c.args.world.now in
-    let h = c.args.held.now in
-    let before = view_of c.draft-draft.result in
-    let after = view_of c.round.new.local in
-    let lawful = c.settings_are_lawful.ensures.enough v.trees v.topology v.limits.seed v.limits.cycles v.limits.limit v.opening c.law.ensures.fits c.law.ensures.cycles c.law.ensures.enough in
-    let does = subst (λ (r : Result RoundEnd NoMemory). IsRoundOf (scan_of v.trees h.machine h.limit h.fired before) r after before) c.in_ok-end.was (c.round.ensures v.trees c.requires.serves) in
-    elim c.match-end.branch [
-      | in-Idle w ↦
-          rw w.how-is
-          (idle-is g.D.Driver.drive g.D.Driver.least v c.args.worker h c.requires.holds lawful before after c.draft-draft.ensures c.in_ok-end.end does
-          c.stalled-stalled.result w.in-Idle.is c.stalled-stalled.ensures)
-      | in-Full w ↦
-          rw w.how-is
-          (full-is g.D.Driver.drive g.D.Driver.least v c.args.worker h c.requires.holds lawful before after c.draft-draft.ensures c.in_ok-end.end does
-          c.stalled-stalled.result w.in-Full.is)
-      | in-Stop w ↦
-          rw w.how-is
-          (stop-is g.D.Driver.drive g.D.Driver.least v c.args.worker h c.requires.holds lawful before after c.draft-draft.ensures c.in_ok-end.end does
-          c.stalled-stalled.result w.in-Stop.at w.in-Stop.is)
-    ]
+pub returns-clause-holds : goal.returns-clause-holds
+returns-clause-holds g c =
+    holds-same g.D.Driver.drive c.args.world.now c.args.worker c.args.held.now c.put_scratch.new.held
+    (same-then c.args.held.now c.take_scratch.new.held c.put_scratch.new.held c.take_scratch.ensures c.put_scratch.ensures) c.requires.holds
+
+pub returns-clause-scanned : goal.returns-clause-scanned
+returns-clause-scanned g c =
+    scanned-same g.D.Driver.drive c.args.world.now c.take_scratch.new.held c.put_scratch.new.held c.put_scratch.ensures c.in_ok-come.come.0 c.in_ok-come.ensures

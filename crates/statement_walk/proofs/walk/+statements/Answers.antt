@@ -293,27 +293,37 @@ made_and_sent-returns g t c =
     (subst (λ (x : Frame). DoesAs (ended f) (block x) (Ok c.in_ok-flow.flow) v u) bound c.in_ok-flow.ensures)
     (subst (λ (n : ℕ). DoesAs (ended h) (sent s calls c.args.buffer c.args.written.now n c.in_ok-flow.flow f) c.sent.result u w) c.len-n.ensures c.sent.ensures)
 
+pub enqueued-returns-in_err-found : goal.enqueued-returns-in_err-found
+unfolding enqueued
+enqueued-returns-in_err-found g t c =
+    let p = err_from_is_err_and c.from_residual.result c.from_residual.ensures.1 in rw (p.1, p.2) (then_stops _ _ _ _ _ _ _ _ c.in_err-found.ensures)
+
 pub enqueued-returns-in_err-buffer : goal.enqueued-returns-in_err-buffer
 unfolding enqueued
 enqueued-returns-in_err-buffer g t c =
-    let p = err_from_is_err_and c.from_residual.result c.from_residual.ensures.1 in rw (p.1, p.2) (then_stops _ _ _ _ _ _ _ _ c.in_err-buffer.ensures)
+    let p = err_from_is_err_and c.from_residual-in_err-buffer.result c.from_residual-in_err-buffer.ensures.1 in
+    rw (p.1, p.2) (then_does _ _ _ _ _ _ _ _ _ c.in_ok-found.ensures (then_stops _ _ _ _ _ _ _ _ c.in_err-buffer.ensures))
 
 pub enqueued-returns-in_err-number : goal.enqueued-returns-in_err-number
 unfolding enqueued
 enqueued-returns-in_err-number g t c =
     let p = err_from_is_err_and c.from_residual-in_err-number.result c.from_residual-in_err-number.ensures.1 in
-    rw (p.1, p.2) (then_does _ _ _ _ _ _ _ _ _ c.in_ok-buffer.ensures (then_stops _ _ _ _ _ _ _ _ c.in_err-number.ensures))
+    rw (p.1, p.2) (then_does _ _ _ _ _ _ _ _ _ c.in_ok-found.ensures (then_does _ _ _ _ _ _ _ _ _ c.in_ok-buffer.ensures (then_stops _ _ _ _ _ _ _ _ c.in_err-number.ensures)))
 
 pub enqueued-returns-in_err-t : goal.enqueued-returns-in_err-t
 unfolding enqueued
 enqueued-returns-in_err-t g t c =
     let p = err_from_is_err_and c.from_residual-in_err-t.result c.from_residual-in_err-t.ensures.1 in
-    rw (p.1, p.2) (then_does _ _ _ _ _ _ _ _ _ c.in_ok-buffer.ensures (then_does _ _ _ _ _ _ _ _ _ c.in_ok-number.ensures (then_stops _ _ _ _ _ _ _ _ c.in_err-t.ensures)))
+    rw (p.1, p.2)
+    (then_does _ _ _ _ _ _ _ _ _ c.in_ok-found.ensures
+    (then_does _ _ _ _ _ _ _ _ _ c.in_ok-buffer.ensures (then_does _ _ _ _ _ _ _ _ _ c.in_ok-number.ensures (then_stops _ _ _ _ _ _ _ _ c.in_err-t.ensures))))
 
 pub enqueued-returns : goal.enqueued-returns
 unfolding enqueued
 enqueued-returns g t c =
-    then_does _ _ _ _ _ _ _ _ _ c.in_ok-buffer.ensures (then_does _ _ _ _ _ _ _ _ _ c.in_ok-number.ensures (then_does _ _ _ _ _ _ _ _ _ c.in_ok-t.ensures c.made_and_sent.ensures))
+    then_does _ _ _ _ _ _ _ _ _ c.in_ok-found.ensures
+    (then_does _ _ _ _ _ _ _ _ _ c.in_ok-buffer.ensures
+    (then_does _ _ _ _ _ _ _ _ _ c.in_ok-number.ensures (then_does _ _ _ _ _ _ _ _ _ c.in_ok-t.ensures c.made_and_sent.ensures)))
 
 -- Statements without a block, and an `if`.
 

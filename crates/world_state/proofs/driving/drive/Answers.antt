@@ -1,6 +1,6 @@
 use Rattle.std.proofs.Common.{◌∙◌, List, ap, arith, subst, sym}
 use Rattle.ruby_value.specs.declared.message.Delivery.{Delivery}
-use Rattle.ruby_value.specs.declared.message.Message.{Message}
+use Rattle.ctl_face.specs.declared.parcel.Parcel.{Parcel}
 use Rattle.sequencer.specs.Prelude.{Drive}
 use Rattle.world_state.specs.Prelude.{CanArrive, numbers_of}
 use Rattle.world_state.proofs.Driven.{act-is, can-end, is-driven, may-act, requests-same, seated-same}
@@ -35,7 +35,7 @@ act-requires-clause-come g c κs within =
     let d : Drive g.row.D.Denot = g.D.Driver.drive mid.driver owned.kept.seats mid.now in
     let act = act-is g.D.Driver.least g.D.Driver.needs g.D.Driver.drive seats held old mid owned is_ready out in
     λ places seated made.
-    subst (λ (ms : List (Delivery Message)). CanArrive places ms)
+    subst (λ (ms : List (Delivery Parcel)). CanArrive places ms)
     (sym (requests-same g.D.Driver.least g.D.Driver.needs g.D.Driver.drive seats held old mid owned is_ready out))
     (c.requests_can_arrive.ensures can.cycles seats old d places can.can act
     (λ x. seated x ∙ seated-same g.D.Driver.least g.D.Driver.needs g.D.Driver.drive seats held old mid owned is_ready out (c.drives_are_lawful.ensures.seats seats held old d) x)
@@ -55,7 +55,7 @@ returns-clause-driven g c =
       d,
       is-driven g.D.Driver.least g.D.Driver.needs g.D.Driver.drive seats held old mid owned is_ready out c.act.new.st (c.drives_are_lawful.ensures.seats seats held old d) c.act.ensures.acted,
       c.act.ensures.numbers
-          ∙ ap (λ (ms : List (Delivery Message)). numbers_of ms) (requests-same g.D.Driver.least g.D.Driver.needs g.D.Driver.drive seats held old mid owned is_ready out),
+          ∙ ap (λ (ms : List (Delivery Parcel)). numbers_of ms) (requests-same g.D.Driver.least g.D.Driver.needs g.D.Driver.drive seats held old mid owned is_ready out),
       c.act.ensures.finding,
     )
 

@@ -1,5 +1,5 @@
 use Rattle.protocol_runs.proofs.Driver.{IsDriver}
-use Rattle.world_state.proofs.Arriving.{copies-arrive, copies-fewer, fired}
+use Rattle.world_state.proofs.Arriving.{copies-arrive, fired}
 use Rattle.world_state.proofs.laws.copies_can_arrive.Goals as goal
 
 pub returns : goal.returns
@@ -9,6 +9,5 @@ returns g c =
     λ p s x after st worker c note acts copies means is is_kept by scanned.
     let fires = fired g.D.Driver.drive g.D.Driver.needs g.D.Driver.least law p s means is x st worker c by.finished is_kept by.is note acts copies after scanned in (
       copies-arrive g.D.Driver.drive g.D.Driver.needs g.D.Driver.least law p s means is x st worker c by.finished is_kept by.is note acts copies after scanned,
-      copies-fewer g.D.Driver.drive g.D.Driver.needs g.D.Driver.least law p s means is x st worker c by.finished is_kept by.is note acts copies after scanned,
       fires.few,
     )

@@ -1,6 +1,6 @@
 use Rattle.std.proofs.Common.{◌≡◌, ◌+◌, ◌∷◌, ◌∙◌, ℕ, List, All, ap, arith, reverse, subst, sym, vec_len}
 use Rattle.ruby_value.specs.declared.message.Delivery.{Delivery}
-use Rattle.ruby_value.specs.declared.message.Message.{Message}
+use Rattle.ctl_face.specs.declared.parcel.Parcel.{Parcel}
 use Rattle.protocol_runs.specs.World as runs
 use Rattle.ctl_face.specs.Prelude.{Ctl}
 use Rattle.world_state.specs.Prelude.{CanArrive, HasRoom, delivered, places_with}
@@ -19,7 +19,7 @@ loop-d-preserved c =
       room = c.deliver_one.ensures.room (vec_len c.pop.new.self) (subst (λ (n : ℕ). All (HasRoom n) places) more c.loop-d.invariant.room);
       come = λ held.
           ap (λ (ps : List (runs.Place Ctl)). delivered ps (reverse left)) (c.deliver_one.ensures.places held)
-          ∙ sym (ap (λ (ds : List (Delivery Message)). delivered (places_with held places) ds) back)
+          ∙ sym (ap (λ (ds : List (Delivery Parcel)). delivered (places_with held places) ds) back)
           ∙ c.loop-d.invariant.come held;
       made = c.deliver_one.ensures.made ∙ c.loop-d.invariant.made;
     }

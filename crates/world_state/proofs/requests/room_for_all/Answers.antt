@@ -12,7 +12,7 @@ loop-place-preserved c =
     record {
       same = λ held. place-same items k c.place-item.result c.room.new.self held (c.room.ensures.same held) ∙ c.loop-place.invariant.same held;
       made = made-same items k c.place-item.result c.room.new.self c.room.ensures.made ∙ c.loop-place.invariant.made;
-      ok = AllWithin-more_set items k c.room.new.self lt (HasRoom c.args.messages) c.loop-place.invariant.ok c.in_ok-room.ensures.ok;
+      ok = AllWithin-more_set items k c.room.new.self lt (HasRoom c.args.parcels) c.loop-place.invariant.ok c.in_ok-room.ensures.ok;
     }
 
 pub returns-in_err-room-clause-same : goal.returns-in_err-room-clause-same

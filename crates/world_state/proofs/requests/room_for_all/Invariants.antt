@@ -8,5 +8,5 @@ abbrev pub invariant-loop-place : goal.invariant-loop-place
 invariant-loop-place l = record {
   same : (held : Ctl) → places_with held l.places ≡ places_with held l.fn.places;
   made : made_in l.places ≡ made_in l.fn.places;
-  ok : AllWithin (HasRoom l.messages) l.places 0 l.place-index;
+  ok : AllWithin (HasRoom l.parcels) l.places 0 l.place-index;
 }

@@ -1,15 +1,18 @@
+use Rattle.std.proofs.Common.{◌∙◌}
 use Rattle.ctl_face.specs.Prelude.{deallocate}
 use Rattle.ctl_store.specs.Prelude.{scanned}
-use Rattle.ctl_store.proofs.Stays.{Steps}
+use Rattle.ctl_store.proofs.Stays.{Steps, scan_kept, scan_same}
 use Rattle.ctl_store.proofs.TableSteps.{deallocate_step, with_changes}
 use Rattle.ctl_store.proofs.scan.Scan.deallocate.Goals as goal
 
-step : (c : goal.After-deallocate)
+step : (c : goal.After-self-1)
     → Steps (λ v. deallocate v c.args.table c.args.line) (λ v. tt) c.deallocate.result c.args.self.now
-    (with_changes (scanned c.self.inside.parts.now c.self.inside.routes.now c.self.inside.seed c.self.inside.changes) c.deallocate.new.changes)
+    (with_changes (scanned c.self.inside.parts.now c.self.inside.routes.now c.self.inside.seed c.deref_mut.result.now) c.deallocate.new.changes)
 step c =
-    deallocate_step (scanned c.self.inside.parts.now c.self.inside.routes.now c.self.inside.seed c.self.inside.changes)
-    c.args.self.now c.deallocate.new.changes c.self.view_is c.self.invariant c.deallocate.ensures.replays
+    let same = scan_same c.self.inside.parts.now c.self.inside.routes.now c.self.inside.seed c.deref_mut.result.now c.self.inside.changes.value c.deref_mut.ensures.value ∙ c.self.view_is in
+    let kept = scan_kept c.self.inside.parts.now c.self.inside.routes.now c.self.inside.seed c.deref_mut.result.now c.self.inside.changes.value c.deref_mut.ensures.value c.self.invariant in
+    deallocate_step (scanned c.self.inside.parts.now c.self.inside.routes.now c.self.inside.seed c.deref_mut.result.now)
+    c.args.self.now c.deallocate.new.changes same kept c.deallocate.ensures.replays
     c.args.table c.args.line c.deallocate.result
     c.deallocate.ensures.does c.deallocate.ensures.states
 

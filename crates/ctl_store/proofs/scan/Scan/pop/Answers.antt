@@ -1,16 +1,19 @@
+use Rattle.std.proofs.Common.{◌∙◌}
 use Rattle.ctl_face.specs.Prelude.{pop}
 use Rattle.ctl_store.specs.Prelude.{scanned}
 use Rattle.ctl_store.proofs.MailSteps.{pop_step, with_mail_changes}
-use Rattle.ctl_store.proofs.Stays.{Steps}
+use Rattle.ctl_store.proofs.Stays.{Steps, scan_kept, scan_same}
 use Rattle.ctl_store.proofs.scan.Scan.pop.Goals as goal
 
-step : (c : goal.After-pop)
+step : (c : goal.After-self-1)
     → Steps (λ v. pop v c.args.buffer) (λ v. tt) c.pop.result c.args.self.now
-    (with_mail_changes (scanned c.self.inside.parts.now c.self.inside.routes.now c.self.inside.seed c.self.inside.changes) c.pop.new.changes)
+    (with_mail_changes (scanned c.self.inside.parts.now c.self.inside.routes.now c.self.inside.seed c.deref_mut.result.now) c.pop.new.changes)
 step c =
-    pop_step (scanned c.self.inside.parts.now c.self.inside.routes.now c.self.inside.seed c.self.inside.changes)
-    c.args.self.now c.pop.new.changes c.pop.result c.self.view_is c.self.invariant c.pop.ensures.cycle c.pop.ensures.changes
-    c.args.buffer c.pop.ensures.does
+    let same = scan_same c.self.inside.parts.now c.self.inside.routes.now c.self.inside.seed c.deref_mut.result.now c.self.inside.changes.value c.deref_mut.ensures.value ∙ c.self.view_is in
+    let kept = scan_kept c.self.inside.parts.now c.self.inside.routes.now c.self.inside.seed c.deref_mut.result.now c.self.inside.changes.value c.deref_mut.ensures.value c.self.invariant in
+    pop_step (scanned c.self.inside.parts.now c.self.inside.routes.now c.self.inside.seed c.deref_mut.result.now)
+    c.args.self.now c.pop.new.changes c.pop.result same kept c.pop.ensures.cycle c.pop.ensures.changes
+    c.args.buffer (c.pop.ensures.does c.self.inside.seed)
 
 pub invariant_of-self : goal.invariant_of-self
 invariant_of-self c = (step c).scan

@@ -1,16 +1,18 @@
-use Rattle.std.proofs.Common.{Ok}
+use Rattle.std.proofs.Common.{Ok, ◌∙◌}
 use Rattle.ctl_face.specs.Prelude.{set_state}
 use Rattle.ctl_store.specs.Prelude.{scanned}
-use Rattle.ctl_store.proofs.Stays.{Steps}
+use Rattle.ctl_store.proofs.Stays.{Steps, scan_kept, scan_same}
 use Rattle.ctl_store.proofs.TableSteps.{set_state_step, with_changes}
 use Rattle.ctl_store.proofs.scan.Scan.set_state.Goals as goal
 
-step : (c : goal.After-set_state)
+step : (c : goal.After-self-1)
     → Steps (λ v. Ok (set_state v c.args.line c.args.state)) (λ v. tt) c.set_state.result c.args.self.now
-    (with_changes (scanned c.self.inside.parts.now c.self.inside.routes.now c.self.inside.seed c.self.inside.changes) c.set_state.new.changes)
+    (with_changes (scanned c.self.inside.parts.now c.self.inside.routes.now c.self.inside.seed c.deref_mut.result.now) c.set_state.new.changes)
 step c =
-    set_state_step (scanned c.self.inside.parts.now c.self.inside.routes.now c.self.inside.seed c.self.inside.changes)
-    c.args.self.now c.set_state.new.changes c.self.view_is c.self.invariant c.set_state.ensures.replays
+    let same = scan_same c.self.inside.parts.now c.self.inside.routes.now c.self.inside.seed c.deref_mut.result.now c.self.inside.changes.value c.deref_mut.ensures.value ∙ c.self.view_is in
+    let kept = scan_kept c.self.inside.parts.now c.self.inside.routes.now c.self.inside.seed c.deref_mut.result.now c.self.inside.changes.value c.deref_mut.ensures.value c.self.invariant in
+    set_state_step (scanned c.self.inside.parts.now c.self.inside.routes.now c.self.inside.seed c.deref_mut.result.now)
+    c.args.self.now c.set_state.new.changes same kept c.set_state.ensures.replays
     c.args.line c.args.state c.set_state.result c.requires.served c.requires.line
     c.set_state.ensures.ok c.set_state.ensures.err c.set_state.ensures.memory c.set_state.ensures.tables
 

@@ -1,35 +1,29 @@
-use Rattle.std.proofs.Common.{List, not, refl, rules, arith}
-use Rattle.std.proofs.lemmas.List.Sorted.{IsPartitionPoint-from_clause}
-use Rattle.ruby_value.specs.Prelude.{number_before}
-use Rattle.stall_map.specs.declared.stalled.Stalled.{Stalled}
-use Rattle.stall_map.proofs.Numbered.{Begins, begins-after, begins-first, next-at, next-none, partitioned, past-end}
+use Rattle.std.proofs.Common.{◌≡◌, None, List, drop, refl, sym, ap, ◌∙◌}
+use Rattle.std.specs.List.{filter, slice_get}
+use Rattle.stall_map.specs.declared.slots.Slot.{Slot}
+use Rattle.stall_map.specs.Prelude.{is_above, waiting_of}
+use Rattle.stall_map.proofs.Orders.{above-split}
+use Rattle.stall_map.proofs.Placed.{filter-all}
 use Rattle.stall_map.proofs.waiting.StallMap.next_after.Goals as goal
 use Rattle.stall_map.proofs.waiting.StallMap.next_after.Goals.{in-Some, in-None}
 
-pub returns-in-Some-get : goal.returns-in-Some-get
-returns-in-Some-get c =
-    let xs : List Stalled = c.self.inside.stalled.items in
-    let begins : Begins c.args.number xs c.match-number.at = elim c.match-number.branch [
-      | in-Some w ↦
-          rw (w.at-is, w.in-Some.is)
-          (begins-after w.in-Some.n xs w.partition_point-at.result
-          (IsPartitionPoint-from_clause (λ (s : Stalled). not (number_before w.in-Some.n s.message.number)) xs w.partition_point-at.result
-          w.partition_point-at.ensures.partitioned (partitioned w.in-Some.n xs c.self.invariant.ascends) (λ a r f' k. search rules)))
-      | in-None w ↦ rw (w.at-is, w.in-None.is) (begins-first xs)
-    ] in
-    rw (← c.self.view_is)
-    (next-at c.args.number xs c.match-number.at c.in-Some-get.s.now begins (omega (arith, c.in-Some-get.ensures.variant.0 refl)) c.in-Some-get.ensures.lookup)
+above-none : (slots : List Slot) → filter (is_above None) (waiting_of slots) ≡ waiting_of (drop 0 slots)
+above-none slots = filter-all (is_above None) (waiting_of slots) (λ k d lt. refl)
 
-pub returns-in-None-get : goal.returns-in-None-get
-returns-in-None-get c =
-    let xs : List Stalled = c.self.inside.stalled.items in
-    let begins : Begins c.args.number xs c.match-number.at = elim c.match-number.branch [
-      | in-Some w ↦
-          rw (w.at-is, w.in-Some.is)
-          (begins-after w.in-Some.n xs w.partition_point-at.result
-          (IsPartitionPoint-from_clause (λ (s : Stalled). not (number_before w.in-Some.n s.message.number)) xs w.partition_point-at.result
-          w.partition_point-at.ensures.partitioned (partitioned w.in-Some.n xs c.self.invariant.ascends) (λ a r f' k. search rules)))
-      | in-None w ↦ rw (w.at-is, w.in-None.is) (begins-first xs)
+pub returns-in-Some-first_from : goal.returns-in-Some-first_from
+returns-in-Some-first_from c =
+    let slots : List Slot = c.self.inside.slots.items in
+    let above : filter (is_above c.args.number) (waiting_of slots) ≡ waiting_of (drop c.match-number.from slots) = elim c.match-number.branch [
+      | in-Some w ↦ rw (w.from-is, w.in-Some.is) (above-split w.in-Some.n slots w.count_up_to-from.result c.self.invariant.order w.count_up_to-from.ensures)
+      | in-None w ↦ rw (w.from-is, w.in-None.is) (above-none slots)
     ] in
-    rw (← c.self.view_is)
-    (next-none c.args.number xs c.match-number.at begins (omega (arith, past-end _ c.match-number.at c.in-None-get.ensures.variant.1)))
+    rw (← c.self.view_is) (c.in-Some-first_from.ensures ∙ ap (λ ws. slice_get ws 0) (sym above))
+
+pub returns-in-None-first_from : goal.returns-in-None-first_from
+returns-in-None-first_from c =
+    let slots : List Slot = c.self.inside.slots.items in
+    let above : filter (is_above c.args.number) (waiting_of slots) ≡ waiting_of (drop c.match-number.from slots) = elim c.match-number.branch [
+      | in-Some w ↦ rw (w.from-is, w.in-Some.is) (above-split w.in-Some.n slots w.count_up_to-from.result c.self.invariant.order w.count_up_to-from.ensures)
+      | in-None w ↦ rw (w.from-is, w.in-None.is) (above-none slots)
+    ] in
+    rw (← c.self.view_is) (c.in-None-first_from.ensures ∙ ap (λ ws. slice_get ws 0) (sym above))

@@ -30,7 +30,7 @@ fire-requires-clause-few g c =
     c.copies_can_arrive.ensures (meaning_of i.plan) setting x after i.state c.args.worker h.controller note told copies means lawful
     (at-once g.D.Driver.least g.D.Driver.drive g.D.Driver.opening i.plan i.topology i.limits i.seats.items i.state c.args.worker h facts holds).kept (holder g.D.Driver.least g.D.Driver.drive g.D.Driver.opening i.plan i.topology i.limits i.seats.items i.state c.args.worker h facts holds)
     (fire-scanned g.D.Driver.least g.D.Driver.drive g.D.Driver.opening i.plan i.topology i.limits i.seats.items i.state c.args.worker h facts holds note told copies after fired.scanned) in
-    omega (arith, law.2, (at-once g.D.Driver.least g.D.Driver.drive g.D.Driver.opening i.plan i.topology i.limits i.seats.items i.state c.args.worker h facts holds).limit)
+    omega (arith, law.1, (at-once g.D.Driver.least g.D.Driver.drive g.D.Driver.opening i.plan i.topology i.limits i.seats.items i.state c.args.worker h facts holds).limit)
 
 pub fire-requires-clause-copies : goal.fire-requires-clause-copies
 fire-requires-clause-copies g c =
@@ -53,28 +53,6 @@ fire-requires-clause-copies g c =
     (at-once g.D.Driver.least g.D.Driver.drive g.D.Driver.opening i.plan i.topology i.limits i.seats.items i.state c.args.worker h facts holds).kept (holder g.D.Driver.least g.D.Driver.drive g.D.Driver.opening i.plan i.topology i.limits i.seats.items i.state c.args.worker h facts holds)
     (fire-scanned g.D.Driver.least g.D.Driver.drive g.D.Driver.opening i.plan i.topology i.limits i.seats.items i.state c.args.worker h facts holds note told copies after fired.scanned) in
     law.0
-
-pub fire-requires-clause-count : goal.fire-requires-clause-count
-fire-requires-clause-count g c =
-    let i = c.self.inside in
-    let facts = c.self.invariant in
-    let h = c.args.held.now in
-    let x = ctl_in c.args.held.now in
-    let holds = rw (← c.self.view_is) at c.requires.holds in
-    let fired = rw (← c.self.view_is) at c.requires.fired in
-    let driver = g.D.Driver.opening i.state.driver in
-    let setting = setting_of i.plan i.topology i.limits.seed i.limits.cycles i.limits.limit driver in
-    let means = c.meanings_are_lawful.ensures i.plan in
-    let lawful = c.settings_are_lawful.ensures.enough i.plan i.topology i.limits.seed i.limits.cycles i.limits.limit driver facts.fits facts.cycles facts.enough in
-    let note = note_of c.args.o in
-    let told = acts_told (outcome_acts c.args.o) in
-    let copies = (outcome_acts c.args.o).posted in
-    let after = outcome_ctl c.args.o x in
-    let law =
-    c.copies_can_arrive.ensures (meaning_of i.plan) setting x after i.state c.args.worker h.controller note told copies means lawful
-    (at-once g.D.Driver.least g.D.Driver.drive g.D.Driver.opening i.plan i.topology i.limits i.seats.items i.state c.args.worker h facts holds).kept (holder g.D.Driver.least g.D.Driver.drive g.D.Driver.opening i.plan i.topology i.limits i.seats.items i.state c.args.worker h facts holds)
-    (fire-scanned g.D.Driver.least g.D.Driver.drive g.D.Driver.opening i.plan i.topology i.limits i.seats.items i.state c.args.worker h facts holds note told copies after fired.scanned) in
-    law.1
 
 pub invariant_of-self : goal.invariant_of-self
 invariant_of-self g c =
@@ -156,5 +134,5 @@ returns-clause-few g c =
       | in-Err w ↦ rw w.result-is tt
       | in-Ok w ↦
           let count : w.fired-held.result ≡ x.fired + 1 = w.fired-held.ensures ∙ ap (λ (y : Ctl). y.fired) w.in-Ok.ensures.ctl in
-          rw (w.result-is, w.held-is) (omega (arith, law.2, count, (at-once g.D.Driver.least g.D.Driver.drive g.D.Driver.opening i.plan i.topology i.limits i.seats.items i.state c.args.worker h facts holds).limit))
+          rw (w.result-is, w.held-is) (omega (arith, law.1, count, (at-once g.D.Driver.least g.D.Driver.drive g.D.Driver.opening i.plan i.topology i.limits i.seats.items i.state c.args.worker h facts holds).limit))
     ]

@@ -1,24 +1,33 @@
-use Rattle.std.proofs.Common.{◌+◌, ◌<◌, length, subst, sym}
+use Rattle.std.proofs.Common.{◌≡◌, ◌+◌, ◌<◌, length, subst, sym}
 use Rattle.ruby_value.specs.declared.setup.MachineSetup.{MachineSetup}
-use Rattle.ctl_face.specs.Prelude.{Ctl}
+use Rattle.ctl_face.specs.Prelude.{with_parcel_arrival, Ctl}
+use Rattle.ctl_face.specs.declared.parcel.Parcel.{Parcel}
+use Rattle.ctl_face.specs.declared.parcel.Parcel.TheVariants as parcel
 use Rattle.ctl_mail.specs.Prelude.{IsNewIn}
-use Rattle.ctl_store.specs.Prelude.{ctl_of}
-use Rattle.world_state.specs.Prelude.{HasRoomBy, Suits, SuitsBy}
+use Rattle.ctl_store.specs.declared.parts.Parts.{Parts}
+use Rattle.ctl_store.specs.Prelude as store
+use Rattle.ctl_store.specs.Prelude.{ctl_of, machine_of}
+use Rattle.world_state.specs.Arrivals.{HaveOwnNumbers}
+use Rattle.world_state.specs.Prelude.{HasRoomBy, SuitsBy}
 use Rattle.world_state.specs.declared.place.Keeper.{Keeper}
-use Rattle.world_state.proofs.Inboxes.{still-new}
+use Rattle.world_state.proofs.Inboxes.{still-new-after}
 use Rattle.world_state.proofs.place.Place.arrive.Goals as goal
 
 pub returns-clause-room : goal.returns-clause-room
 returns-clause-room c =
     λ more has. c.arrive.ensures.room more (subst (λ (k : Keeper). HasRoomBy (more + 1) k) c.in-World.is has)
 
+-- what the store takes after a parcel has come
+still-takes : (old new : Parts) (p n : Parcel) → ctl_of new ≡ with_parcel_arrival (ctl_of old) p → machine_of new ≡ machine_of old
+    → HaveOwnNumbers p n → store.Takes n old → store.Takes n new
+still-takes old new p (parcel.Message m) after machine differ takes = (
+  subst (λ (x : Ctl). IsNewIn x.mail m.number) (sym after) (still-new-after (ctl_of old) p m differ takes.0),
+  subst (λ (s : MachineSetup). m.buffer < length s.buffers) (sym machine) takes.1,
+)
+still-takes old new p (parcel.Credit c) after machine differ takes = tt
+
 pub returns-clause-others : goal.returns-clause-others
 returns-clause-others c =
     λ n differ takes.
-    let suits : Suits n c.in-World.kept.store = subst (λ (k : Keeper). SuitsBy n k) c.in-World.is takes in
-    record {
-      new =
-          subst (λ (x : Ctl). IsNewIn x.mail n.number) (sym c.arrive.ensures.after)
-          (still-new (ctl_of c.in-World.kept.store) c.args.m n.number differ suits.new);
-      buffer = subst (λ (m : MachineSetup). n.buffer < length m.buffers) (sym c.arrive.ensures.store.machine) suits.buffer;
-    }
+    still-takes c.in-World.kept.store _ c.args.p n c.arrive.ensures.after c.arrive.ensures.store.machine differ
+    (subst (λ (k : Keeper). SuitsBy n k) c.in-World.is takes)

@@ -5,6 +5,8 @@ use Rattle.std.specs.declared.alloc.Global.{Global}
 use Rattle.std.specs.declared.vec.Vec.{Vec}
 use Rattle.ruby_value.specs.declared.message.Delivery.{Delivery}
 use Rattle.ruby_value.specs.declared.message.Message.{Message}
+use Rattle.ctl_face.specs.declared.parcel.Parcel.{Parcel}
+use Rattle.ctl_face.specs.declared.parcel.Parcel.TheVariants as parcel
 use Rattle.ruby_value.specs.declared.value.Value.{Value}
 use Rattle.world_state.specs.Prelude.{IsFieldRoom}
 use Rattle.world_state.proofs.Asking.{at-seat, no-seat, number-more}
@@ -21,8 +23,8 @@ returns-clause-messages c =
     let lt : c.args.i.seat < length c.args.seats.now = c.in-Some.ensures.lookup.3.0 in
     let old = c.args.self.now.messages.items in
     c.push_reserved-2.ensures.items
-    ∙ ap (λ (fields : List Value). old ++ (let d : Delivery Message = record { receiver = seat.controller; message = record { number = c.args.number; buffer = seat.queue; arrival = c.args.now + 1; recycled = false; fields = fields } } in d) ∷ []) c.request_fields.ensures
-    ∙ ap (λ (ds : List (Delivery Message)). old ++ ds) (at-seat c.args.seats.now c.args.i.seat seat c.args.number c.args.now c.args.i.asked lt c.in-Some.ensures.lookup.1)
+    ∙ ap (λ (fields : List Value). old ++ (let d : Delivery Parcel = record { receiver = seat.controller; message = parcel.Message (record { number = c.args.number; buffer = seat.queue; arrival = c.args.now + 1; recycled = false; fields = fields }) } in d) ∷ []) c.request_fields.ensures
+    ∙ ap (λ (ds : List (Delivery Parcel)). old ++ ds) (at-seat c.args.seats.now c.args.i.seat seat c.args.number c.args.now c.args.i.asked lt c.in-Some.ensures.lookup.1)
 
 pub returns-clause-room : goal.returns-clause-room
 returns-clause-room c =
@@ -31,10 +33,7 @@ returns-clause-room c =
     let popped = All-pop IsFieldRoom c.args.self.now.fields.items left (Some c.in-Some-pop.room) c.in-Some-pop.ensures.items has.fields in
     let shorter : length c.args.self.now.fields.items ≡ length left + 1 =
     ap (λ (xs : List (Vec Value Global)). length xs) c.in-Some-pop.ensures.items ∙ length-append left (c.in-Some-pop.room ∷ []) in
-    let d : Delivery Message = record {
-      receiver = c.in-Some.seat.now.controller;
-      message = record { number = c.args.number; buffer = c.in-Some.seat.now.queue; arrival = c.args.now + 1; recycled = false; fields = c.request_fields.result };
-    } in
+    let m : Message = record { number = c.args.number; buffer = c.in-Some.seat.now.queue; arrival = c.args.now + 1; recycled = false; fields = c.request_fields.result } in
     record {
       fields = popped.0;
       lists = omega (arith, has.lists, shorter);
@@ -42,5 +41,5 @@ returns-clause-room c =
       numbers = omega (arith, has.numbers, c.push_reserved.ensures.len, c.push_reserved.ensures.capacity);
       are_numbers =
           c.push_reserved.ensures.items
-          ∙ number-more c.args.self.now.messages.items c.push_reserved-2.new.self.items c.args.self.now.numbers.items d has.are_numbers c.push_reserved-2.ensures.items;
+          ∙ number-more c.args.self.now.messages.items c.push_reserved-2.new.self.items c.args.self.now.numbers.items c.in-Some.seat.now.controller m has.are_numbers c.push_reserved-2.ensures.items;
     }

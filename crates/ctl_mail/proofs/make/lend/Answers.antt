@@ -1,0 +1,12 @@
+use Rattle.std.proofs.Common.{◌+◌, arith}
+use Rattle.ctl_mail.proofs.Places.{no-more}
+use Rattle.ctl_mail.proofs.make.lend.Goals as goal
+
+pub returns-clause-places : goal.returns-clause-places
+returns-clause-places c = record {
+  buffers = λ buffer. omega arith;
+  networks = λ network n has. no-more c.args.store.now.network_last.items network n (n + 1) (omega arith) has;
+  locals = omega arith;
+  lent = omega arith;
+  credits = omega arith;
+}

@@ -1,0 +1,16 @@
+use Rattle.std.proofs.Common.{refl}
+use Rattle.one_worker.proofs.scanning.take_scratch.Goals as goal
+
+pub returns : goal.returns
+returns c = record {
+  controller = refl;
+  machine = refl;
+  cycle = refl;
+  seed = refl;
+  limit = refl;
+  fired = refl;
+  stalled = refl;
+  ctl = c.take_scratch.ensures.same;
+  store = c.take_scratch.ensures.store;
+  routes = refl;
+}

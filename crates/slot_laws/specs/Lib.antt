@@ -1,0 +1,4 @@
+pub mod Slotted
+pub mod Slots
+pub mod Sends
+pub mod Prelude
