@@ -1,0 +1,4 @@
+pub mod Stacks
+pub mod Arms
+pub mod Ready
+pub mod RunSteps

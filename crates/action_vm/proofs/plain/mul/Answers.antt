@@ -1,0 +1,12 @@
+use mir.Val.{SFits}
+use Rattle.std.proofs.Common.{rules, w64}
+use Rattle.std.proofs.lemmas.Int.{to_z-of_z}
+use Rattle.action_vm.proofs.Arms.{product_does}
+use Rattle.action_vm.proofs.plain.mul.Goals as goal
+
+pub returns : goal.returns
+returns c l =
+    let fits_a : SFits w64 c.pop_int-a.result = search rules in
+    let fits_b : SFits w64 c.pop_int-b.result = search rules in
+    product_does _ _ _ _ c.pop_int-a.result c.pop_int-b.result _ _ l c.pop_int-b.ensures c.pop_int-a.ensures (c.put.ensures l)
+    (rw (to_z-of_z w64 c.pop_int-a.result fits_a, to_z-of_z w64 c.pop_int-b.result fits_b) at c.product.ensures)

@@ -1,0 +1,167 @@
+//! Operations, and ends of bodies.
+ghost use Rattle.std.specs.Prelude.{◌≡◌, slice_get, IfOk, OnOk};
+ghost use Rattle.ctl_face.specs.Prelude.{LocalView};
+ghost use Rattle.acts.specs.Prelude.{DoesAs};
+ghost use Rattle.action_code.specs.Prelude.{machine_of, operations, tables_of};
+ghost use Rattle.built_in_acts.specs.Prelude.{argument};
+ghost use Rattle.code_meaning.specs.Prelude.{argument_count, arity, called, kept_of, kinds_of, operated, returned, stop_of, triggered};
+ghost use Rattle.action_vm.specs.Frames.{CalledAs, NeedsResult, step_of};
+ghost use Rattle.action_vm.specs.Needs.{Any, IsAddress, IsReference, Over, Rest};
+ghost use Rattle.action_vm.specs.declared.frame.Frame.{Frame};
+ghost use Rattle.action_vm.specs.declared.frame.Next.TheVariants as next;
+
+use crate::frame::Next;
+use crate::pops::{pop, pop_address, pop_reference};
+use crate::stack::Stack;
+use action_code::{Arguments, Code, OPERATIONS, Operation, Program, TableDecl};
+use acts::{Fault, Local, NoMemory, Trouble, Value};
+use built_in_acts::{KeptMachines, address_of_line, built_in};
+use code_meaning::CodeEnd;
+use ruby_value::{Kind, line_of};
+use std::alloc::Global;
+
+fn kinds_of(p: &Program, structure: u16) -> &[Kind]
+    ensures { result.now ≡ kinds_of p.now structure }
+{
+    match p.structures.get(usize::from(structure)) {
+        Some(kinds) => kinds.as_slice(),
+        None => &[],
+    }
+}
+
+// The tables of a body's machine.
+fn tables_of<'a>(p: &'a Program, c: &Code) -> &'a [TableDecl]
+    ensures { result.now ≡ tables_of (machine_of p.now c.now) }
+{
+    match p.machines.get(usize::from(c.machine)) {
+        Some(m) => m.tables.as_slice(),
+        None => &[],
+    }
+}
+
+// Where the controllers of a body's machine keep the numbers of all machines' controllers.
+fn kept_of(p: &Program, c: &Code) -> KeptMachines
+    ensures { result ≡ kept_of p.now c.now }
+{
+    let tables = tables_of(p, c);
+    let table = tables.len().saturating_sub(1);
+    let fields = match tables.get(table) {
+        Some(t) => kinds_of(p, t.structure).len(),
+        None => 0,
+    };
+    let machines = p.machines.len();
+    let first = fields.saturating_sub(machines).saturating_sub(machines);
+    KeptMachines {
+        table: table.min(65_535) as u16,
+        first: first.min(255) as u8,
+        count: machines.min(255) as u8,
+    }
+}
+
+#[tactic(auto, unfolding(action_code::specs::Operations::operations))]
+fn all_operations() -> &'static [Operation]
+    ensures { result.now ≡ operations }
+{
+    &OPERATIONS
+}
+
+// How many values the operation of this number takes.
+fn arity(n: u16) -> usize
+    ensures { result ≡ arity (slice_get operations n) }
+{
+    match all_operations().get(usize::from(n)) {
+        None => 0,
+        Some(o) => match o.arguments {
+            Arguments::Zero => 0,
+            Arguments::One(_) => 1,
+            Arguments::Two(_, _) => 2,
+            Arguments::Three(_, _, _) => 3,
+            Arguments::Four(_, _, _, _) => 4,
+        },
+    }
+}
+
+/// How many arguments the body of this number has.
+pub(crate) fn argument_count(p: &Program, n: u32) -> usize
+    ensures { result ≡ argument_count (slice_get p.now.bodies n) }
+{
+    match p.bodies.get(n as usize) {
+        Some(c) => c.arguments.len(),
+        None => 0,
+    }
+}
+
+/// Does an operation with the arguments on top, and leaves what it gives in their place.
+pub(crate) fn operate<T: Local>(
+    alloc: Global,
+    p: &Program,
+    c: &Code,
+    n: u16,
+    on: u16,
+    stack: &mut Stack<Value>,
+    local: &mut T,
+) -> Result<(), Trouble>
+    ensures { DoesAs (λ _. stack.new) (operated p.now c.now n on stack.old) result
+        (T.view local.old) (T.view local.new) }
+{
+    let arguments = stack.take(arity(n))?;
+    let given = built_in(alloc, local, kept_of(p, c), n, on, arguments.as_slice())?;
+    if let Some(v) = given {
+        stack.push(v)?;
+    }
+    Ok(())
+}
+
+/// After a call that ended so, whose arguments were taken off.
+pub(crate) fn called(stack: &mut Stack<Value>, end: CodeEnd) -> Result<Next, NoMemory>
+    ensures { IfOk result (λ n. CalledAs end stack.old stack.new n) }
+{
+    match end {
+        CodeEnd::Value(v) => {
+            stack.push(v)?;
+            Ok(Next::On)
+        }
+        CodeEnd::Nothing => Ok(Next::On),
+        other => Ok(Next::Over(other)),
+    }
+}
+
+/// The end of a body that asks for an event, with the address and the references on top.
+pub(crate) fn trigger(stack: &mut Stack<Value>, event: u16) -> CodeEnd
+    requires { Over IsReference (Over IsReference (Over IsAddress Rest)) stack.old }
+    ensures { result ≡ triggered event stack.old }
+{
+    let tbe = pop_reference(stack);
+    let entry = pop_reference(stack);
+    let address = address_of_line(line_of(pop_address(stack)));
+    CodeEnd::Trigger {
+        event,
+        address,
+        entry,
+        tbe,
+    }
+}
+
+/// The end of a body that stops with a fault.
+pub(crate) fn stop(alloc: Global, fault: &Fault) -> Result<Next, Trouble>
+    ensures { (l : LocalView) (f : Frame) → DoesAs (step_of l f) (stop_of fault.now) result l l }
+{
+    let own = Fault::copied(alloc, fault)?;
+    match own {
+        Fault::Assert | Fault::Error(_) | Fault::Overflow | Fault::Reference => {
+            Err(Trouble::Fault(own))
+        }
+        other => Ok(Next::Over(CodeEnd::Stop(other))),
+    }
+}
+
+/// The end of a body with this result.
+pub(crate) fn ret(stack: &mut Stack<Value>, kind: Option<Kind>) -> CodeEnd
+    requires { NeedsResult kind stack.old }
+    ensures { result ≡ returned kind (argument stack.old 0) }
+{
+    match kind {
+        None => CodeEnd::Nothing,
+        Some(_) => CodeEnd::Value(pop(stack)),
+    }
+}
