@@ -7,7 +7,7 @@ use Rattle.slicc_ast.specs.declared.tree.item.Tree.{Tree}
 use Rattle.ruby_options.specs.declared.options.Options.{Options}
 use Rattle.ruby_topology.specs.declared.topology.Topology.{Topology}
 use Rattle.protocol_meaning.specs.declared.record.RunRecord.{RunRecord}
-use Rattle.ruby_world.specs.Prelude.{IsWholeRunBy, rules_in}
+use Rattle.protocol_meaning.specs.Prelude.{IsWholeRunBy, rules_in}
 use Rattle.ruby_answers.specs.Prelude.{IsRunIn, IsByOneWorker, ByItsDriver, IsSoBy, IsWholeRun, OfDrivers, is_tested, tester_of}
 
 -- by the driver that these options ask for over this topology, and so by that of the record that has both

@@ -4,7 +4,7 @@ ghost use Rattle.ruby_answers.specs.Prelude.{IsRunIn, IsByOneWorker, is_tested, 
 ghost use Rattle.ruby_options.specs.Prelude.{IsWithin};
 ghost use Rattle.protocol_runs.specs.Prelude.{IsAlone};
 ghost use Rattle.ruby_topology.specs.Prelude.{ForLine, IsRefused, IsRefusedPlain};
-ghost use Rattle.ruby_world.specs.Prelude.{IsWholeRunBy, rules_in};
+ghost use Rattle.protocol_meaning.specs.Prelude.{IsWholeRunBy, rules_in};
 ghost use Rattle.slicc_plan.specs.Prelude.{symbols_of};
 ghost use Rattle.protocol_meaning.specs.Prelude.{FitsPlan};
 

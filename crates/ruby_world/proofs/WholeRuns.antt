@@ -6,10 +6,10 @@ use Rattle.slicc_ast.specs.declared.tree.item.Tree.{Tree}
 use Rattle.run_journal.specs.declared.entry.Entry.{Entry}
 use Rattle.protocol_runs.specs.Prelude.{IsAlone, Rules, IsRun, Ran, World, is_held, opening, opening_place}
 use Rattle.ruby_topology.specs.declared.topology.Topology.{Topology}
-use Rattle.one_worker.specs.Prelude.{RunLimits, HasAddedAlone, InWorld, IsNobodyHeld, WorldView, opened, rules_in}
+use Rattle.ruby_world.specs.Prelude.{RunLimits, HasAddedAlone, InWorld, IsNobodyHeld, WorldView, opened, rules_in}
 use Rattle.protocol_meaning.specs.declared.record.RunRecord.{RunRecord}
 use Rattle.protocol_meaning.specs.Records as records
-use Rattle.one_worker.proofs.Views.{alone-all}
+use Rattle.ruby_world.proofs.Views.{alone-all}
 use Rattle.sequencer.specs.Prelude.{Drive, Seat}
 
 none-held : {C : Type 0} (controllers : List C) → list_any is_held (map opening_place controllers) ≡ false

@@ -1,5 +1,9 @@
-pub use Rattle.one_worker.specs.Worlds
-pub use Rattle.one_worker.specs.Held
-pub use Rattle.protocol_meaning.specs.Records
-pub use Rattle.one_worker.specs.Adds
+pub mod Worlds
+pub mod Held
+pub mod Data
+pub mod Opening
+pub mod Accounted
+pub mod Adds
+pub mod Waking
+pub mod Scanned
 pub mod Prelude

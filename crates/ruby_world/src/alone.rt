@@ -1,9 +1,11 @@
 //! A run by one worker, who is worker 0.
 ghost use Rattle.std.specs.Prelude.{◌≡◌, IfOk, OnOk, is_some};
-ghost use Rattle.one_worker.specs.Prelude.{HasAddedAlone, InWorld, IsNobodyHeld};
+ghost use Rattle.ruby_world.specs.Prelude.{HasAddedAlone, InWorld, IsNobodyHeld};
 ghost use Rattle.protocol_runs.specs.Prelude.{HasEnded};
 
-use one_worker::{WORKER, World, wake_all, world_after};
+use crate::recording::world_after;
+use crate::waking::{WORKER, wake_all};
+use crate::world::World;
 use protocol_meaning::Protocol;
 use ruby_value::NoMemory;
 use sequencer::Driver;

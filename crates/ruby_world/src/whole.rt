@@ -5,7 +5,9 @@ ghost use Rattle.protocol_runs.specs.Prelude.{IsAlone};
 ghost use Rattle.protocol_meaning.specs.Prelude.{IsWholeRunBy, rules_in, FitsPlan};
 
 use crate::alone::run_alone;
-use one_worker::{RunLimits, World, into_record, runs_from_the_opening_are_alone};
+use crate::laws::runs_from_the_opening_are_alone;
+use crate::recording::into_record;
+use crate::world::{RunLimits, World};
 use protocol_meaning::{Protocol, RunRecord};
 use ruby_options::Options;
 use ruby_topology::Topology;

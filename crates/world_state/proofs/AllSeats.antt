@@ -1,7 +1,7 @@
 -- Seat by seat: sequencers that are put back, and that are taken out.
-use Rattle.std.proofs.Common.{◌≡◌, ◌≢◌, ◌<◌, ◌≤◌, ◌+◌, ◌++◌, ℕ, List, [], ◌∷◌, Option, None, Some, drop, get_or, length, map, reverse, take, refl, sym, ◌∙◌, ap, slice_get, cond, arith, Bool}
+use Rattle.std.proofs.Common.{◌≡◌, ◌<◌, ◌+◌, ◌++◌, ℕ, List, [], ◌∷◌, Option, None, Some, drop, get_or, length, reverse, take, sym, ◌∙◌, ap, slice_get, cond}
 use Rattle.std.proofs.lemmas.List.{drop_more, map-append, reverse-append, take_more}
-use Rattle.std.proofs.lemmas.Option.{get_or_from_slice_get, slice_get-get_or, slice_get-map, slice_get_within}
+use Rattle.std.proofs.lemmas.Option.{get_or_from_slice_get, slice_get-map, slice_get_within}
 use Rattle.std.specs.List.{AllPairs}
 use Rattle.std.specs.Option.{option_and_then, option_map}
 use Rattle.ruby_value.specs.Prelude.{Requests}

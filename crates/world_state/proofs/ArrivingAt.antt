@@ -1,9 +1,8 @@
 -- Places to one of which a message has come.
-use Rattle.std.proofs.Common.{◌≡◌, ◌≢◌, ◌<◌, ◌≤◌, ◌+◌, ℕ, zero, suc, List, [], ◌∷◌, Option, None, Some, All, IsSomeAnd, ◌++◌, length, reverse, refl, sym, ◌∙◌, ap, subst, slice_get, slice_set, arith}
-use Rattle.std.proofs.lemmas.List.Elements.{All-head, All-tail, All-weaker, All-set}
+use Rattle.std.proofs.Common.{◌≡◌, ◌<◌, ◌+◌, ℕ, zero, suc, List, [], ◌∷◌, Option, None, Some, All, IsSomeAnd, ◌++◌, length, reverse, sym, ◌∙◌, ap, subst, slice_get, slice_set, arith}
+use Rattle.std.proofs.lemmas.List.Elements.{All-tail, All-weaker, All-set}
 use Rattle.std.proofs.lemmas.List.{reverse-append, reverse-reverse}
 use Rattle.std.proofs.lemmas.Option.{slice_get-map, same_Some}
-use Rattle.std.specs.List.{AllPairs}
 use Rattle.std.specs.Option.{option_map}
 use Rattle.ruby_value.specs.declared.message.Delivery.{Delivery}
 use Rattle.ctl_face.specs.declared.parcel.Parcel.{Parcel}
@@ -22,7 +21,7 @@ pub fewer-by : (n : ℕ) (k : Keeper) → HasRoomBy (n + 1) k → HasRoomBy n k
 fewer-by n (World k) has = record { buffers = λ b within. omega (arith, has.buffers b within); marks = omega (arith, has.marks); credits = omega (arith, has.credits) }
 fewer-by n (Worker w) has = tt
 
-all-both : {X : Type 0} (P Q : X → Type 0) (xs : List X) → All P xs → All Q xs → All (λ x. P x × Q x) xs
+pub all-both : {X : Type 0} (P Q : X → Type 0) (xs : List X) → All P xs → All Q xs → All (λ x. P x × Q x) xs
 all-both P Q xs first second = λ k d within. (first k d within, second k d within)
 
 takes-by : (P : Place → Type 0) (o : Option Place) (p : Place) → o ≡ Some p → IsSomeAnd o P → P p

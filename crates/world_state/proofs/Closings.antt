@@ -1,5 +1,5 @@
 -- A turn that ends the run with a controller that has stopped is a step of the run.
-use Rattle.std.proofs.Common.{◌≡◌, ◌+◌, ◌||◌, ◌&&◌, not, ℕ, zero, suc, Bool, true, false, cond, List, [], ◌∷◌, Option, None, Some, map, length, nat_lt, refl, sym, ◌∙◌, ap, subst, slice_get}
+use Rattle.std.proofs.Common.{◌≡◌, ◌+◌, ◌||◌, ◌&&◌, not, ℕ, suc, Bool, false, cond, List, [], ◌∷◌, Option, None, Some, map, length, nat_lt, refl, sym, ◌∙◌, ap, subst, slice_get}
 use Rattle.std.specs.List.{list_any, position, position_or_len}
 use Rattle.std.proofs.lemmas.List.{length-map}
 use Rattle.run_journal.specs.declared.event.Event.TheVariants.{Turn}
@@ -11,9 +11,8 @@ use Rattle.protocol_runs.specs.Prelude.{Closes, IsIdle, Rules, Stepped, is_busy,
 use Rattle.protocol_runs.specs.World as runs
 use Rattle.protocol_runs.proofs.Steps.{change-steps}
 use Rattle.ctl_face.specs.Prelude.{Ctl}
-use Rattle.ctl_store.specs.Prelude.{ctl_of}
 use Rattle.sequencer.specs.Prelude.{Drive, Seat}
-use Rattle.world_state.specs.Prelude.{has_stopped, stopped_by as stopped_at, IsHomeBy, is_free, made_in, marks_by, place_by, place_with, places_with, IsClosed, IsRested, AreMade, IsHeldIn, IsKept, IsLone, IsNobody, world_of, IsStep}
+use Rattle.world_state.specs.Prelude.{has_stopped, stopped_by as stopped_at, IsHomeBy, made_in, marks_by, place_by, place_with, places_with, IsClosed, IsRested, AreMade, IsSettled, IsNobody, world_of, IsStep}
 use Rattle.world_state.specs.declared.place.Keeper.{Keeper}
 use Rattle.world_state.specs.declared.place.Keeper.TheVariants.{World as Home, Worker}
 use Rattle.world_state.specs.declared.place.Place.{Place}
@@ -53,7 +52,7 @@ module _ {D : Type 0} (p : Meaning) (drive : D → List Seat → ℕ → Drive D
   stopped-by finished (Home k) home = refl
   stopped-by finished (Worker w) home = absurd home
 
-  module _ (old new : State D) (worker c : ℕ) (is_kept : IsKept p drive s held old) (nobody : IsNobody (made_in old.places.items)) (rested : IsRested old)
+  module _ (old new : State D) (worker c : ℕ) (is_kept : IsSettled p drive s held old) (nobody : IsNobody (made_in old.places.items)) (rested : IsRested old)
       (least : position has_stopped old.places.items ≡ Some c) (closed : IsClosed worker c old new) where
     idle : IsIdle R (world_of held old)
     idle = none-busy old.now old.places.items (λ d k there. rested-by old.now k.finished k.keeper (home-at old.places.items d k nobody there) (rested d k there))
@@ -88,8 +87,7 @@ module _ {D : Type 0} (p : Meaning) (drive : D → List Seat → ℕ → Drive D
     made-same : made_in new.places.items ≡ made_in old.places.items
     made-same = ap made_in closed.places
 
-    pub close-kept : IsStep p drive s held old (Turn worker) held new → IsKept p drive s held new
+    pub close-kept : IsStep p drive s held old (Turn worker) held new → IsSettled p drive s held new
     close-kept st =
         stays-kept p drive s held held old new (Turn worker) is_kept st
-        (subst (AreMade s) (sym made-same) is_kept.made) (subst IsLone (sym made-same) is_kept.lone)
-        (λ d is. absurd (subst IsNobody (sym made-same) nobody d is))
+        (subst (AreMade s) (sym made-same) is_kept.made)

@@ -1,10 +1,9 @@
 -- The copies of a transition that fires can come to their receivers: each is for another controller, which is there, has a buffer for
 -- it, and has no message of its number; and no two of them have one number.
-use Rattle.std.proofs.Common.{◌≡◌, ◌≢◌, ◌<◌, ◌≤◌, ◌+◌, ◌&&◌, ◌==◌, ◌++◌, not, ℕ, zero, suc, Bool, true, false, List, [], ◌∷◌, Option, None, Some, All, IsSomeAnd, cond, filter, map, length, refl, sym, ◌∙◌, ap, subst, slice_get, arith}
+use Rattle.std.proofs.Common.{◌≡◌, ◌≢◌, ◌≤◌, ◌+◌, ◌&&◌, ◌==◌, ℕ, zero, suc, Bool, List, [], ◌∷◌, All, filter, map, length, refl, sym, ◌∙◌, ap, subst, arith}
 use Rattle.std.proofs.lemmas.Bool.{eq-eqb}
 use Rattle.std.proofs.lemmas.List.Elements.{All-cons, All-filter, All-head, All-nil, All-tail, All-weaker}
 use Rattle.std.proofs.lemmas.List.Kept.{AllPairs-cons, AllPairs-filter}
-use Rattle.std.proofs.lemmas.Option.{same_Some, slice_get_within}
 use Rattle.std.specs.List.{AllPairs}
 use Rattle.ruby_value.proofs.Ordered.{AllPairs-head, AllPairs-nil, AllPairs-tail}
 use Rattle.ruby_value.specs.declared.message.Delivery.{Delivery}
@@ -14,7 +13,6 @@ use Rattle.ctl_face.specs.declared.parcel.Parcel.{Parcel}
 use Rattle.ctl_face.specs.declared.parcel.Parcel.TheVariants as parcel
 use Rattle.ruby_value.specs.declared.message.MsgNo.{MsgNo}
 use Rattle.ruby_value.specs.declared.message.Sent.{Sent}
-use Rattle.ruby_value.specs.declared.setup.MachineSetup.{MachineSetup}
 use Rattle.ruby_value.specs.Prelude.{same_number, numbers_from}
 use Rattle.protocol_runs.specs.Prelude.{times, mailed}
 use Rattle.protocol_runs.specs.RunRules as runs_rules
@@ -126,7 +124,7 @@ parcels-next sender count ds all =
     (λ d is. is) (λ d any. tt) ds all (any-credit (credits_among ds))
 
 -- a number that stands nowhere in an inbox is new to it
-same-one : (a b : MsgNo) → a ≡ b → one (same_number a b) ≡ 1
+pub same-one : (a b : MsgNo) → a ≡ b → one (same_number a b) ≡ 1
 same-one a b is =
     ap one (ap (λ (x : Bool). x && a.count == b.count) (eq-eqb a.sender b.sender (ap (λ (n : MsgNo). n.sender) is)) ∙ eq-eqb a.count b.count (ap (λ (n : MsgNo). n.count) is))
 

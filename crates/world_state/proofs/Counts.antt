@@ -4,7 +4,6 @@ use Rattle.std.proofs.Common.{◌≡◌, ◌≤◌, ◌+◌, ◌*◌, ◌++◌, 
 use Rattle.std.specs.Option.{option_to_list}
 use Rattle.ruby_value.specs.declared.message.MsgNo.{MsgNo}
 use Rattle.std.proofs.lemmas.List.{append-nil, length-append}
-use Rattle.ruby_value.specs.declared.message.Delivery.{Delivery}
 use Rattle.run_journal.specs.declared.entry.Entry.{Entry}
 use Rattle.run_journal.specs.declared.event.Event.{Event}
 use Rattle.run_journal.specs.declared.event.Event.TheVariants.{Turn}

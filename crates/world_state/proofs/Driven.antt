@@ -24,7 +24,7 @@ use Rattle.world_state.specs.declared.place.Place.{Place}
 use Rattle.world_state.specs.declared.seat.SeatAt.{SeatAt}
 use Rattle.world_state.specs.declared.state.State.{State}
 use Rattle.world_state.specs.declared.driving.Told.{Told}
-use Rattle.world_state.specs.declared.fires.Room.{Room}
+use Rattle.world_state.specs.declared.ready.Room.{Room}
 
 -- there are as many seats as the driver has
 pub seat-count : (seats : List SeatAt) (xs : List Ctl) → length (seats_in (setups_in seats) xs) ≡ length seats

@@ -1,5 +1,5 @@
 -- An inbox to which a message has come.
-use Rattle.std.proofs.Common.{◌≡◌, ◌≢◌, List, Bool, ◌∷◌, ◌++◌, All, sym}
+use Rattle.std.proofs.Common.{◌≢◌, List, Bool, All, sym}
 use Rattle.std.proofs.lemmas.List.Elements.{All-append, All-cons, All-filter}
 use Rattle.ruby_value.specs.declared.message.Message.{Message}
 use Rattle.ruby_value.specs.declared.message.MsgNo.{MsgNo}

@@ -1,7 +1,7 @@
 pub mod Worlds
-pub mod Mades
 pub mod Stepping
-pub mod Firing
+pub mod Posted
+pub mod Settled
 pub mod Copies
 pub mod Arriving
 pub mod Rooms

@@ -1,12 +1,12 @@
 -- What the next mark of a controller says of its marks.
-use Rattle.std.proofs.Common.{◌≡◌, ◌<◌, ◌≤◌, ◌+◌, ◌==◌, ◌||◌, ℕ, Bool, true, false, cond, subst, Option, None, Some, List, [], ◌∷◌, refl, sym, ap, ◌∙◌, nat_lt, arith, IsTrue}
-use Rattle.std.specs.List.{All, Contains}
-use Rattle.std.proofs.lemmas.Bool.{eq-eqb, eqb-true, ltb-true, ltb-false, lt-ltb, le-ltb}
+use Rattle.std.proofs.Common.{◌≡◌, ◌<◌, ◌≤◌, ◌+◌, ◌==◌, ◌||◌, ℕ, Bool, true, false, cond, subst, Option, None, Some, List, [], ◌∷◌, refl, sym, ap, ◌∙◌, nat_lt, arith}
+use Rattle.std.specs.List.{All}
+use Rattle.std.proofs.lemmas.Bool.{eq-eqb, eqb-true, ltb-true, ltb-false}
 use Rattle.std.proofs.lemmas.List.Elements.{All-cons, All-nil, All-head, All-tail, All-contains, All-weaker}
 use Rattle.ruby_value.specs.Prelude.{has_mark}
 use Rattle.ruby_value.proofs.Contained.{Contains-cons_here, Contains-cons_there}
 use Rattle.protocol_runs.specs.Prelude.{above, earlier, least_above}
-use Rattle.ctl_mail.specs.Prelude.{IsLeastFrom, IsNextMark}
+use Rattle.ctl_mail.specs.Prelude.{IsNextMark}
 
 -- there is one next mark at most
 pub one-next : (marks : List ℕ) (from : ℕ) (a b : Option ℕ) → IsNextMark marks from a → IsNextMark marks from b → a ≡ b

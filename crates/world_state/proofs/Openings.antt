@@ -11,9 +11,8 @@ use Rattle.ctl_store.specs.Prelude.{ctl_of}
 use Rattle.sequencer.specs.Prelude.{Drive, Seat}
 use Rattle.world_state.specs.declared.place.Kept.{Kept}
 use Rattle.world_state.specs.declared.place.Place.{Place}
-use Rattle.world_state.specs.Prelude.{Made, made_for, made_in, places_with, IsOpening, AreMade, IsHeldIn, IsKept, IsLone, IsMadeFor, IsNobody, home_place, world_of}
+use Rattle.world_state.specs.Prelude.{Made, made_for, made_in, places_with, IsOpening, IsSettled, IsMadeFor, IsNobody, home_place, world_of}
 use Rattle.world_state.specs.declared.state.State.{State}
-use Rattle.world_state.proofs.Mades.{nobody-lone}
 
 abbrev all_home : List Kept → List Place
 all_home kept = map (λ (k : Kept). home_place k false) kept
@@ -59,12 +58,10 @@ module _ {D : Type 0} (p : Meaning) (drive : D → List Seat → ℕ → Drive D
       (subst (λ (j : List Entry). IsRun R [] (world_of held st) j) (sym opens.journal)
       (subst (λ (w : World Ctl D). IsRun R [] w []) world-opens refl))
 
-  pub opens-kept : ((c : ℕ) (k : Kept) → slice_get kept c ≡ Some k → IsMadeFor s c (made_for k)) → IsKept p drive s held st
+  pub opens-kept : ((c : ℕ) (k : Kept) → slice_get kept c ≡ Some k → IsMadeFor s c (made_for k)) → IsSettled p drive s held st
   opens-kept fits = record {
     run = opens-run;
     made = λ c m is.
         let (k, there, same) = opened-at kept c m (ap (λ (ps : List Place). slice_get (made_in ps) c) (sym opens.places) ∙ is) in
         subst (λ (n : Made). IsMadeFor s c n) same (fits c k there);
-    lone = nobody-lone (made_in st.places.items) opens-nobody;
-    room = λ c is. absurd (opens-nobody c is);
   }

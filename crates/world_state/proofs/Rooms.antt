@@ -1,5 +1,5 @@
 -- Places that have changed but for room: what could come to them still can.
-use Rattle.std.proofs.Common.{◌≡◌, ◌<◌, ℕ, Bool, List, Option, None, Some, All, IsSomeAnd, length, refl, sym, ◌∙◌, ap, subst, slice_get}
+use Rattle.std.proofs.Common.{◌≡◌, ◌<◌, Bool, List, Option, length, sym, ◌∙◌, ap, subst, slice_get}
 use Rattle.std.proofs.lemmas.List.Elements.{All-weaker}
 use Rattle.std.proofs.lemmas.Option.{same_Some}
 use Rattle.ruby_value.specs.declared.message.Delivery.{Delivery}

@@ -1,14 +1,14 @@
 -- What a driver's turn makes of its seats, put back into the stores, is what a run's turn makes of the controllers.
-use Rattle.std.proofs.Common.{◌≡◌, ◌≢◌, ◌<◌, ◌+◌, ◌&&◌, ◌==◌, ◌⊎◌, inl, inr, ⊎_elim, ◌++◌, ℕ, zero, suc, Bool, true, false, cond, List, [], ◌∷◌, Option, None, Some, All, length, map, refl, sym, ◌∙◌, ap, slice_get, arith}
+use Rattle.std.proofs.Common.{◌≡◌, ◌==◌, ◌⊎◌, inl, inr, ◌++◌, ℕ, zero, suc, Bool, true, false, cond, List, [], ◌∷◌, Option, None, Some, refl, sym, ◌∙◌, ap, slice_get}
 use Rattle.std.proofs.lemmas.Bool.{and_parts, eqb-true}
 use Rattle.std.proofs.lemmas.List.Kept.{AllPairs-cons}
-use Rattle.std.proofs.lemmas.List.Elements.{All-map, All-weaker}
+use Rattle.std.proofs.lemmas.List.Elements.{All-map}
 use Rattle.std.proofs.lemmas.Option.{same_Some, slice_get-map}
 use Rattle.std.specs.List.{AllPairs, flat_map}
 use Rattle.std.specs.Option.{option_map}
 use Rattle.ruby_value.proofs.Ordered.{AllPairs-head, AllPairs-nil, AllPairs-tail}
 use Rattle.ruby_value.specs.Prelude.{Requests}
-use Rattle.protocol_runs.specs.Prelude.{changed_from, SeatSetup, acts_at, is_seat_of, issued_at, seat_with, seats_in, served, taken_at}
+use Rattle.protocol_runs.specs.Prelude.{changed_from, acts_at, is_seat_of, issued_at, seat_with, seats_in, served, taken_at}
 use Rattle.protocol_runs.specs.World as runs
 use Rattle.protocol_runs.proofs.Places.{AreChanged, changed}
 use Rattle.ctl_face.specs.Prelude.{DriverAct, Issues, Takes, after_driver_act, after_driver_acts, Ctl}

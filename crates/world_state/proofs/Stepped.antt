@@ -19,7 +19,7 @@ use Rattle.protocol_runs.proofs.Steps.{change-steps}
 use Rattle.ctl_face.specs.Prelude.{Ctl}
 use Rattle.protocol_runs.proofs.Driver.{IsDriver}
 use Rattle.sequencer.specs.Prelude.{Drive, Seat}
-use Rattle.world_state.specs.Prelude.{delivered, has_stopped, next_of, stopped_by, IsHomeBy, is_free, made_in, marks_by, place_by, place_with, places_with, IsRested, AreMade, IsKept, IsLone, IsNobody, world_of, IsStep, GoesOn, IsActIn, IsSameDriver, IsTurned, messages_in, next_in, numbers_of, requests_in, seated_in, setups_in, IsOfRun}
+use Rattle.world_state.specs.Prelude.{delivered, has_stopped, next_of, stopped_by, IsHomeBy, is_free, made_in, marks_by, place_by, place_with, places_with, IsRested, AreMade, IsSettled, IsNobody, world_of, IsStep, GoesOn, IsActIn, IsSameDriver, IsTurned, messages_in, next_in, numbers_of, requests_in, seated_in, setups_in, IsOfRun}
 use Rattle.world_state.specs.declared.place.Keeper.{Keeper}
 use Rattle.world_state.specs.declared.place.Keeper.TheVariants.{World as Home, Worker}
 use Rattle.world_state.specs.declared.place.Place.{Place}
@@ -234,8 +234,7 @@ module _ {D : Type 0} (drive : D → List Seat → ℕ → Drive D) (needs : D �
       let same = ended.same in
       same.made ∙ driven.made
 
-  pub turn-kept : IsKept p drive s held new
+  pub turn-kept : IsSettled p drive s held new
   turn-kept =
       stays-kept p drive s held held old new (Turn worker) of_run.kept turn-steps
-      (subst (AreMade s) (sym made-same) of_run.kept.made) (subst IsLone (sym made-same) of_run.kept.lone)
-      (λ c is. absurd (subst IsNobody (sym made-same) nobody c is))
+      (subst (AreMade s) (sym made-same) of_run.kept.made)

@@ -1,7 +1,6 @@
 -- Places where the sequencer of one store is another.
-use Rattle.std.proofs.Common.{◌≡◌, ◌<◌, ℕ, Bool, true, false, not, cond, List, [], ◌∷◌, zero, suc, Option, None, Some, All, IsSome, IsSomeAnd, get_or, length, map, refl, sym, ◌∙◌, ap, subst, slice_get, slice_set, arith}
+use Rattle.std.proofs.Common.{◌≡◌, ◌<◌, ℕ, Bool, false, not, cond, List, [], ◌∷◌, zero, suc, Option, None, Some, All, get_or, length, refl, sym, ◌∙◌, ap, subst, slice_get, slice_set, arith}
 use Rattle.std.proofs.lemmas.Bool.{not-false}
-use Rattle.std.proofs.lemmas.List.{length-map}
 use Rattle.std.proofs.lemmas.List.Elements.{All-set}
 use Rattle.std.proofs.lemmas.Option.{slice_get-map, slice_get_read}
 use Rattle.std.specs.Option.{option_and_then, option_map}

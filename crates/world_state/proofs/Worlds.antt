@@ -1,5 +1,5 @@
 -- Places where another controller is held, or nobody is, and messages that come as a run has it.
-use Rattle.std.proofs.Common.{◌≡◌, ◌≢◌, ℕ, zero, suc, Bool, List, [], ◌∷◌, Option, None, Some, map, refl, sym, ◌∙◌, ap, slice_get, slice_set, arith}
+use Rattle.std.proofs.Common.{◌≡◌, ◌≢◌, ℕ, zero, suc, Bool, List, [], ◌∷◌, Option, None, Some, map, refl, ◌∙◌, ap, slice_get, slice_set, arith}
 use Rattle.std.proofs.lemmas.Option.{slice_get-map}
 use Rattle.std.specs.Option.{option_map}
 use Rattle.ruby_value.specs.declared.message.Delivery.{Delivery}
@@ -8,7 +8,7 @@ use Rattle.protocol_runs.specs.Prelude.{Rules, with_deliveries, with_delivery_at
 use Rattle.protocol_runs.specs.World as runs
 use Rattle.ctl_face.specs.Prelude.{Ctl}
 use Rattle.sequencer.specs.Prelude.{Drive, Seat}
-use Rattle.world_state.specs.Prelude.{delivered, delivered_one, with_arrival_at, IsHomeBy, Made, made_by, made_in, place_by, place_with, places_with, IsHeldIn, IsLone, IsNobody}
+use Rattle.world_state.specs.Prelude.{delivered, delivered_one, with_arrival_at, IsHomeBy, Made, made_by, made_in, place_by, place_with, places_with, IsNobody}
 use Rattle.world_state.specs.declared.place.Keeper.{Keeper}
 use Rattle.world_state.specs.declared.place.Keeper.TheVariants.{World, Worker}
 use Rattle.world_state.specs.declared.place.Place.{Place}
@@ -53,16 +53,6 @@ pub nobody-same : (h g : Ctl) (places : List Place) → IsNobody (made_in places
 nobody-same h g places nobody =
     all-same (place_with h) (place_with g) places
     (λ d k there. home-same h g k.finished k.keeper (home-by k.keeper (λ none. nobody d (made-at places d k there ∙ ap (λ (o : Option Made). Some o) none))))
-
-pub held-same : (h g : Ctl) (places : List Place) (c : ℕ) (k : Place) → IsLone (made_in places) → slice_get places c ≡ Some k → made_by k.keeper ≡ None
-    → places_with h places ≡ slice_set (places_with g places) c (place_with h k)
-held-same h g places c k lone there held =
-    all-but-one (place_with h) (place_with g) places c k there
-    (λ d y at apart.
-    home-same h g y.finished y.keeper
-    (home-by y.keeper
-    (λ none.
-    apart (lone d c (made-at places d y at ∙ ap (λ (o : Option Made). Some o) none) (made-at places c k there ∙ ap (λ (o : Option Made). Some o) held)))))
 
 -- messages come as a run has it
 module _ {D : Type 0} (p : Meaning) (drive : D → List Seat → ℕ → Drive D) (s : Setting D) where

@@ -2,14 +2,13 @@
 -- credit to its credits, and the arrival among the receiver's marks. They can come where no receiver is held, each message has a buffer
 -- there and each receiver room for all of them, and the numbers are new and not given twice. That what comes sets a mark where it goes is
 -- this project's own.
-use Rattle.std.specs.Prelude.{◌≡◌, ◌≢◌, ◌<◌, ◌≤◌, ◌+◌, ℕ, Option, None, Some, IsSomeAnd, List, length, fold, slice_get, slice_set}
+use Rattle.std.specs.Prelude.{◌≢◌, ℕ, Option, None, Some, IsSomeAnd, List, fold, slice_get, slice_set}
 use Rattle.std.specs.List.{All, AllPairs}
 use Rattle.ruby_value.specs.declared.message.Delivery.{Delivery}
 use Rattle.protocol_runs.specs.World as runs
 use Rattle.ctl_face.specs.declared.parcel.Parcel.{Parcel}
 use Rattle.ctl_face.specs.declared.parcel.Parcel.TheVariants as parcel
 use Rattle.ctl_face.specs.Prelude.{with_parcel_arrival, Ctl}
-use Rattle.ctl_store.specs.declared.parts.Parts.{Parts}
 use Rattle.ctl_store.specs.Prelude.{HasRoomForParcels}
 use Rattle.ctl_store.specs.Prelude as store
 use Rattle.world_state.specs.declared.place.Keeper.{Keeper}

@@ -16,7 +16,7 @@ use Rattle.world_state.specs.Seated.{IsHomeIn, seated}
 use Rattle.world_state.specs.declared.state.State.{State}
 use Rattle.world_state.specs.Steps.{SameCycle}
 use Rattle.world_state.specs.declared.driving.Told.{Told}
-use Rattle.world_state.specs.declared.fires.Room.{Room}
+use Rattle.world_state.specs.declared.ready.Room.{Room}
 use Rattle.world_state.specs.Requests.{HasRoomFor}
 use Rattle.world_state.specs.Turned.{messages_in, requests_in, seating_in}
 use Rattle.world_state.specs.Turning.{CanTurn}

@@ -2,7 +2,6 @@ pub mod Booked
 pub mod States
 pub mod Steps
 pub mod Ended
-pub mod Firing
 pub mod Opened
 pub mod Closed
 pub mod Places
@@ -10,6 +9,7 @@ pub mod Arrivals
 pub mod Cycle
 pub mod Driving
 pub mod Requests
+pub mod Waiting
 pub mod Turned
 pub mod Turning
 pub mod Seated

@@ -1,5 +1,5 @@
 -- A world's data as a run begins: nobody is held or finished, and nothing has happened yet.
-use Rattle.std.specs.Prelude.{◌≡◌, ℕ, false, None, List, [], map}
+use Rattle.std.specs.Prelude.{◌≡◌, false, None, List, [], map}
 use Rattle.world_state.specs.declared.place.Kept.{Kept}
 use Rattle.world_state.specs.declared.state.State.{State}
 use Rattle.world_state.specs.States.{home_place}

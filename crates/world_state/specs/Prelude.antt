@@ -1,6 +1,6 @@
 -- The definitions that other files name, from one place.
 pub use Rattle.world_state.specs.Booked.{Booked}
-pub use Rattle.world_state.specs.States.{AreMade, IsHeldBy, IsHeldIn, IsKept, IsLone, IsMadeFor, IsNobody, held_place, home_place, world_of}
+pub use Rattle.world_state.specs.States.{AreMade, IsHeldIn, IsMadeFor, IsNobody, IsSettled, held_place, home_place, world_of}
 pub use Rattle.world_state.specs.Steps.{IsSame, IsStep, SameCycle, Writes}
 pub use Rattle.world_state.specs.Ended.{ended, rested}
 pub use Rattle.world_state.specs.Opened.{IsOpening}
@@ -13,3 +13,4 @@ pub use Rattle.world_state.specs.Requests.{HasRoomFor, IsFieldRoom}
 pub use Rattle.world_state.specs.Turned.{GoesOn, IsActIn, IsCycleEnded, IsDriven, IsReady, IsSameDriver, IsTurned, messages_in, next_in, numbers_of, requests_in, seated_in, seating_in}
 pub use Rattle.world_state.specs.Turning.{CanTurn, IsOfRun}
 pub use Rattle.world_state.specs.Seated.{IsHomeIn, controllers_in, seated, seated_one, setup_of, setups_in, with_requests, with_requests_at}
+pub use Rattle.world_state.specs.Waiting.{CanSettle, Comes, ComesWithRoom, HasCome, HasListRoom, HasPartlyCome, HasRoomToPost, parcels_in, waiting_at, with_parcels}

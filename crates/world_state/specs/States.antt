@@ -1,6 +1,7 @@
--- The world of a run, as its data are kept. The controller that a worker holds isn't there, so it is handed in: it is what the worker
--- has. No two controllers are held at a time. What each store was made for is what the setting says of its controller.
-use Rattle.std.specs.Prelude.{◌≡◌, ◌<◌, ℕ, Bool, Option, None, Some, List, slice_get}
+-- The world of a run, as its data are kept, while nothing waits for a controller. A controller that a worker holds isn't there, so it
+-- is handed in: it is what the worker has, and where nobody is held, it doesn't matter which it is. What each store was made for is what
+-- the setting says of its controller.
+use Rattle.std.specs.Prelude.{◌≡◌, ℕ, Bool, Option, None, Some, List, slice_get}
 use Rattle.protocol_runs.specs.Prelude.{IsRun, World, setup_of, Meaning, rules, Setting}
 use Rattle.ctl_face.specs.Prelude.{Ctl}
 use Rattle.sequencer.specs.Prelude.{Drive, Seat}
@@ -36,24 +37,14 @@ held_place worker finished = record { keeper = keeper.Worker worker; finished = 
 abbrev pub home_place : Kept → (finished : Bool) → Place
 home_place kept finished = record { keeper = keeper.World kept; finished = finished }
 
--- the worker holds the controller
-pub record IsHeldBy (worker c : ℕ) (places : List Place) : Type 0 where
-  pub finished : Bool
-  pub is : slice_get places c ≡ Some (held_place worker finished)
-
--- nobody is held, and no two are
+-- nobody is held
 abbrev pub IsHeldIn : List (Option Made) → ℕ → Type 0
 IsHeldIn mades c = slice_get mades c ≡ Some None
 
 abbrev pub IsNobody : List (Option Made) → Type 0
 IsNobody mades = (c : ℕ) → IsHeldIn mades c → ⊥
 
-abbrev pub IsLone : List (Option Made) → Type 0
-IsLone mades = (c d : ℕ) → IsHeldIn mades c → IsHeldIn mades d → c ≡ d
-
--- The history leads to this world, with this journal. Where a controller is held there is room for one event more.
-pub record IsKept {D : Type 0} (p : Meaning) (drive : D → List Seat → ℕ → Drive D) (s : Setting D) (held : Ctl) (st : State D) : Type 0 where
+-- The history leads to this world, with this journal.
+pub record IsSettled {D : Type 0} (p : Meaning) (drive : D → List Seat → ℕ → Drive D) (s : Setting D) (held : Ctl) (st : State D) : Type 0 where
   pub run : IsRun (rules p drive s) st.book.history (world_of held st) st.book.journal
   pub made : AreMade s (made_in st.places.items)
-  pub lone : IsLone (made_in st.places.items)
-  pub room : (c : ℕ) → IsHeldIn (made_in st.places.items) c → 0 < st.book.event_room

@@ -9,7 +9,7 @@ use Rattle.world_state.specs.declared.seat.SeatAt.{SeatAt}
 use Rattle.world_state.specs.Seated.{setups_in}
 use Rattle.world_state.specs.declared.state.State.{State}
 use Rattle.world_state.specs.Closed.{IsRested}
-use Rattle.world_state.specs.States.{IsKept, IsNobody}
+use Rattle.world_state.specs.States.{IsSettled, IsNobody}
 
 module _ {D : Type 0} (least : D → ℕ) (drive : D → List Seat → ℕ → Drive D) (cycles : ℕ) (seats : List SeatAt) where
   -- the data are those of a run of this meaning and setting
@@ -18,7 +18,7 @@ module _ {D : Type 0} (least : D → ℕ) (drive : D → List Seat → ℕ → D
     pub setting : IsSetting least s
     pub cycles_are : cycles ≡ s.cycles
     pub seats_are : setups_in seats ≡ s.seats
-    pub kept : IsKept p drive s held st
+    pub kept : IsSettled p drive s held st
 
   -- of whatever run
   pub record CanTurn (st : State D) : Type 0 where

@@ -43,19 +43,25 @@ impl Book {
         }
     }
 
-    /// Makes room for so many events, and for one entry with so many numbers and copies in its lists, or answers that there is none.
-    /// No room is lost.
-    pub fn reserve(&mut self, events: usize, numbers: usize, sents: usize) -> Result<(), NoMemory>
+    /// Makes room for so many events, and for so many entries with so many numbers and copies in their lists, or answers that there is
+    /// none. No room is lost.
+    pub fn reserve(
+        &mut self,
+        events: usize,
+        entries: usize,
+        numbers: usize,
+        sents: usize,
+    ) -> Result<(), NoMemory>
         ensures history { self.new.history ≡ self.old.history }
         ensures journal { self.new.journal ≡ self.old.journal }
         ensures ok { OnOk result (events ≤ self.new.event_room) }
-        ensures entry { OnOk result (HasRoomFor 1 numbers sents self.new.entry_room) }
-        ensures few { OnOk result (HasFew 1 numbers sents) }
+        ensures entry { OnOk result (HasRoomFor entries numbers sents self.new.entry_room) }
+        ensures few { OnOk result (HasFew entries numbers sents) }
         ensures no_less { self.old.event_room ≤ self.new.event_room }
         ensures no_fewer { KeepsRoom 0 0 0 self.old.entry_room self.new.entry_room }
     {
         self.history.reserve(events)?;
-        self.journal.reserve(1, numbers, sents)
+        self.journal.reserve(entries, numbers, sents)
     }
 
     /// An event without an entry is written, for which there is room. It takes no memory.

@@ -9,8 +9,8 @@ ghost use Rattle.world_state.specs.Requests.{HasRoomFor};
 ghost use Rattle.world_state.specs.Turned.{IsDriven, numbers_of, requests_in};
 
 use crate::all_seats::put_seats;
-use crate::fires::{Ready, prepare};
 use crate::laws::{drives_are_lawful, places_stay_home, requests_can_arrive, seats_are_ready};
+use crate::ready::{Ready, prepare};
 use crate::requests::Requests;
 use crate::seat::SeatAt;
 use crate::{State, deliver};

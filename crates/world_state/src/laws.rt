@@ -1,18 +1,13 @@
-// What calls do to a world's data, a turn among them, is a step of the run, and the data stay those of the run. These functions do nothing:
+// What a turn does to a world's data is a step of the run, and the data stay those of the run. These functions do nothing:
 // their contracts are the laws.
-ghost use Rattle.std.specs.Prelude.{◌≡◌, ◌≤◌, ◌<◌, ℕ, true, false, List, None, Some, length, map, position, slice_get, IfSome, Option};
+ghost use Rattle.std.specs.Prelude.{◌≡◌, ◌≤◌, ◌<◌, ℕ, false, List, None, Some, length, map, position, slice_get, IfSome, Option};
 ghost use Rattle.std.specs.List.{list_any, All, AllPairs};
-ghost use Rattle.run_journal.specs.declared.entry.End.{End};
-ghost use Rattle.run_journal.specs.declared.entry.Entry.TheVariants as entry;
-ghost use Rattle.run_journal.specs.declared.entry.FireNote.{FireNote};
 ghost use Rattle.run_journal.specs.declared.event.Event.TheVariants as event;
-ghost use Rattle.ruby_value.specs.declared.message.Delivery.{Delivery};
-ghost use Rattle.ctl_face.specs.declared.parcel.Parcel.{Parcel};
-ghost use Rattle.protocol_runs.specs.Prelude.{Ends, Acts, Fired, fired_entry, is_free as is_free_in, is_held as is_held_in, IsSetting, IsMeaning, Meaning, opening_of, rules, Setting, Place as RunPlace, seats_in};
-ghost use Rattle.ctl_face.specs.Prelude.{with_one_fired, Ctl};
+ghost use Rattle.protocol_runs.specs.Prelude.{Meaning, opening_of, Setting, Place as RunPlace, seats_in};
+ghost use Rattle.ctl_face.specs.Prelude.{Ctl};
 ghost use Rattle.ctl_store.specs.Prelude.{ctl_of};
 ghost use Rattle.sequencer.specs.Prelude.{Drive, Seat, after_drive};
-ghost use Rattle.world_state.specs.Prelude.{has_stopped, CanArrive, delivered, IsEndedAt, IsPutBack, IsTakenOut, is_free, is_held, made_for, made_in, places_with, IsClosed, IsRested, IsOpening, IsHeldBy, IsKept, IsMadeFor, IsNobody, home_place, IsStep, SameCycle, Writes, HasLine, IsHome, controllers_in, seated, setups_in, IsActIn, IsReady, IsTurned, requests_in, seated_in, seating_in, CanTurn, IsOfRun};
+ghost use Rattle.world_state.specs.Prelude.{has_stopped, CanArrive, is_free, is_held, made_for, made_in, places_with, IsClosed, IsRested, IsOpening, IsSettled, IsMadeFor, IsNobody, IsStep, HasLine, IsHome, controllers_in, seated, setups_in, IsActIn, IsReady, IsTurned, requests_in, seated_in, seating_in, CanTurn, IsOfRun};
 ghost use Rattle.world_state.specs.declared.place.Kept.{Kept};
 ghost use Rattle.world_state.specs.declared.place.Place.{Place, Place as PlaceRecord};
 ghost use Rattle.world_state.specs.declared.state.State.{State};
@@ -30,19 +25,11 @@ pub fn runs_open<D>()
         → IsOpening kept s.driver st
         → map (λ (k : Kept). ctl_of k.store) kept ≡ opening_of p drive s
         → ((c : ℕ) (k : Kept) → slice_get kept c ≡ Some k → IsMadeFor s c (made_for k))
-        → IsKept p drive s held st × IsNobody (made_in st.places.items) }
+        → IsSettled p drive s held st × IsNobody (made_in st.places.items) }
 {}
 
-/// The least controller that is due and free, and whether somebody is held, are in a world what they are in its data; and where nobody
-/// is held or none is free, no place is.
-pub fn reads_are_of_the_world<D>()
-    ensures free { (p : Meaning) (drive : D → List Seat → ℕ → Drive D) (s : Setting D) (held : Ctl)
-        (now : ℕ) (places : List Place)
-        → position (is_free_in (rules p drive s) now) (places_with held places)
-        ≡ position (is_free now) places }
-    ensures held { (held : Ctl) (places : List Place)
-        → list_any is_held_in (places_with held places)
-        ≡ list_any (λ (k : Place). is_held k.keeper) places }
+/// Where no place is read as held, nobody is; and where none is read as due and free, no place is.
+pub fn reads_are_of_places()
     ensures nobody { (places : List Place)
         → list_any (λ (k : Place). is_held k.keeper) places ≡ false
         → IsNobody (made_in places) }
@@ -50,82 +37,15 @@ pub fn reads_are_of_the_world<D>()
         → (c : ℕ) (k : Place) → slice_get places c ≡ Some k → is_free now k ≡ false }
 {}
 
-/// A worker takes a controller that is due, where nobody is held and no verdict stands.
-pub fn takes_are_steps<D>()
-    ensures { (p : Meaning) (drive : D → List Seat → ℕ → Drive D) (s : Setting D) (held : Ctl)
-        (old new : State D) (worker c : ℕ) (kept : Kept)
-        → IsKept p drive s held old → IsNobody (made_in old.places.items) → old.verdict ≡ None
-        → (t : IsTakenOut worker c kept old.places.items new.places.items)
-        → is_free old.now (home_place kept t.finished) ≡ true
-        → SameCycle old new → Writes old new (event.Take worker c) None
-        → 0 < new.book.event_room
-        → IsStep p drive s held old (event.Take worker c) (ctl_of kept.store) new
-        × IsKept p drive s (ctl_of kept.store) new × IsMadeFor s c (made_for kept) }
-{}
-
-/// A worker gives back a controller that it holds, with the store that was made for it.
-pub fn releases_are_steps<D>()
-    ensures { (p : Meaning) (drive : D → List Seat → ℕ → Drive D) (s : Setting D)
-        (old new : State D) (worker c : ℕ) (kept : Kept)
-        → IsKept p drive s (ctl_of kept.store) old → old.verdict ≡ None
-        → IsHeldBy worker c old.places.items → IsMadeFor s c (made_for kept)
-        → IsPutBack c kept old.places.items new.places.items
-        → SameCycle old new → Writes old new (event.Release worker c) None
-        → IsStep p drive s (ctl_of kept.store) old (event.Release worker c) (ctl_of kept.store) new
-        × IsKept p drive s (ctl_of kept.store) new × IsNobody (made_in new.places.items) }
-{}
-
-/// The wake-up of a controller that a worker holds ends as its scan has it.
-pub fn ends_are_steps<D>()
-    ensures { (p : Meaning) (drive : D → List Seat → ℕ → Drive D) (s : Setting D)
-        (x after : Ctl) (old new : State D) (worker c : ℕ) (kept : Kept) (e : End)
-        → IsKept p drive s x old → old.verdict ≡ None
-        → IsHeldBy worker c old.places.items → IsMadeFor s c (made_for kept)
-        → Ends (rules p drive s) c old.now x after e
-        → IsEndedAt c kept after old.places.items new.places.items
-        → SameCycle old new
-        → Writes old new (event.Done worker c) (Some (entry.Ended old.now c e))
-        → IsStep p drive s x old (event.Done worker c) x new
-        × IsKept p drive s x new × IsNobody (made_in new.places.items) }
-{}
-
-/// A transition of a controller that a worker holds fires as its scan has it, and its copies come to their receivers.
-pub fn fires_are_steps<D>()
-    ensures { (p : Meaning) (drive : D → List Seat → ℕ → Drive D) (s : Setting D)
-        (x after : Ctl) (old new : State D) (worker c : ℕ)
-        (note : FireNote) (acts : Acts) (copies : List (Delivery Parcel))
-        → IsKept p drive s x old → old.verdict ≡ None → IsHeldBy worker c old.places.items
-        → ((rules p drive s).scan c x old.now).outcome ≡ Fired note acts copies after
-        → ((held : Ctl) → places_with held new.places.items
-        ≡ delivered (places_with held old.places.items) copies)
-        → made_in new.places.items ≡ made_in old.places.items
-        → SameCycle old new
-        → Writes old new (event.Fire worker c) (Some (fired_entry old.now c note acts))
-        → 0 < new.book.event_room
-        → IsStep p drive s x old (event.Fire worker c) (with_one_fired after) new
-        × IsKept p drive s (with_one_fired after) new }
-{}
-
 /// A turn at which no controller is held or due, and some have stopped, ends the run with the least-numbered one.
 pub fn closes_are_steps<D>()
     ensures { (p : Meaning) (drive : D → List Seat → ℕ → Drive D) (s : Setting D) (held : Ctl)
         (old new : State D) (worker c : ℕ)
-        → IsKept p drive s held old → old.verdict ≡ None
+        → IsSettled p drive s held old → old.verdict ≡ None
         → IsNobody (made_in old.places.items) → IsRested old
         → position has_stopped old.places.items ≡ Some c
         → IsClosed worker c old new
-        → IsStep p drive s held old (event.Turn worker) held new × IsKept p drive s held new }
-{}
-
-/// The copies and credits of a transition that fires can come to their receivers; and a controller that fires has fired fewer
-/// transitions in this cycle than it may.
-pub fn copies_can_arrive<D: Driver>()
-    ensures { (p : Meaning) (s : Setting D) (x after : Ctl) (st : State D) (worker c : ℕ)
-        (note : FireNote) (acts : Acts) (copies : List (Delivery Parcel))
-        → IsMeaning p → IsSetting D.least s
-        → IsKept p D.drive s x st → IsHeldBy worker c st.places.items
-        → ((rules p D.drive s).scan c x st.now).outcome ≡ Fired note acts copies after
-        → CanArrive st.places.items copies × (x.fired < s.limit) }
+        → IsStep p drive s held old (event.Turn worker) held new × IsSettled p drive s held new }
 {}
 
 /// In the data of a run that goes on and in which nobody is held, the cycle is one of a run, and the seats are at controllers that are
@@ -187,5 +107,5 @@ pub fn turned_data_are_steps<D: Driver>()
         → IsOfRun D.least D.drive cycles seats p s held old
         → position has_stopped old.places.items ≡ None
         → IsTurned D.drive cycles seats worker verdict old new
-        → IsStep p D.drive s held old (event.Turn worker) held new × IsKept p D.drive s held new }
+        → IsStep p D.drive s held old (event.Turn worker) held new × IsSettled p D.drive s held new }
 {}

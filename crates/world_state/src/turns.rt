@@ -4,7 +4,7 @@ ghost use Rattle.std.specs.List.{All};
 ghost use Rattle.ctl_face.specs.Prelude.{Ctl};
 ghost use Rattle.ctl_store.specs.Prelude.{requests_of};
 ghost use Rattle.protocol_runs.specs.Prelude.{seat_in, Meaning, Setting};
-ghost use Rattle.world_state.specs.Prelude.{HasRoom, made_in, places_with, IsHomeIn, controllers_in, seated_one, setup_of, IsKept, IsSame, IsStep, CanTurn, IsOfRun, IsHome, CanEnd, GoesOn, IsCycleEnded, IsSameDriver};
+ghost use Rattle.world_state.specs.Prelude.{HasRoom, made_in, places_with, IsHomeIn, controllers_in, seated_one, setup_of, IsSettled, IsSame, IsStep, CanTurn, IsOfRun, IsHome, CanEnd, GoesOn, IsCycleEnded, IsSameDriver};
 ghost use Rattle.run_journal.specs.declared.event.Event.TheVariants as event;
 
 use crate::driving::{Told, drive};
@@ -68,8 +68,9 @@ pub fn turn<D: Driver>(
     ensures step { OnOk result ((p : Meaning) (s : Setting D) (held : Ctl)
         → IsOfRun D.least D.drive cycles seats.now p s held st.old
         → IsStep p D.drive s held st.old (event.Turn worker) held st.new
-        × IsKept p D.drive s held st.new) }
+        × IsSettled p D.drive s held st.new) }
     ensures verdict { IfOk result (λ v. v ≡ st.new.verdict) }
+    ensures made { made_in st.new.places.items ≡ made_in st.old.places.items }
     ensures err { OnErr result (IsSame st.old st.new) }
 {
     turned_data_are_steps::<D>();

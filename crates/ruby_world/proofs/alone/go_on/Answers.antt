@@ -1,4 +1,4 @@
-use Rattle.one_worker.proofs.Views.{alone-none, goes-between, turn-smaller, turns-on}
+use Rattle.ruby_world.proofs.Views.{alone-none, goes-between, turn-smaller, turns-on}
 use Rattle.ruby_world.proofs.alone.go_on.Goals as goal
 
 pub cycles-init : goal.cycles-init

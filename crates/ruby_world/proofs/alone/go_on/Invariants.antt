@@ -1,5 +1,5 @@
-use Rattle.one_worker.specs.Prelude.{HasAddedAlone, InWorld, IsNobodyHeld}
-use Rattle.one_worker.proofs.Views.{left_in}
+use Rattle.ruby_world.specs.Prelude.{HasAddedAlone, InWorld, IsNobodyHeld}
+use Rattle.ruby_world.proofs.Views.{left_in}
 use Rattle.ruby_world.proofs.alone.go_on.Given as goal
 
 abbrev pub invariant-cycles : goal.invariant-cycles

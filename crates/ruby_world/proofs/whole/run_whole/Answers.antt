@@ -1,5 +1,5 @@
 use Rattle.std.proofs.lemmas.Result.{MatchResult-weaker}
-use Rattle.one_worker.specs.Prelude.{RunLimits}
+use Rattle.ruby_world.specs.Prelude.{RunLimits}
 use Rattle.ruby_world.proofs.WholeRuns.{begins-nobody, whole-alone}
 use Rattle.ruby_world.proofs.whole.run_whole.Goals as goal
 

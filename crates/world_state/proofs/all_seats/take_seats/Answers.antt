@@ -1,4 +1,4 @@
-use Rattle.std.proofs.Common.{◌≡◌, ◌≤◌, ◌<◌, ◌+◌, ◌∙◌, List, ap, arith, length, refl, slice_get, sym, take}
+use Rattle.std.proofs.Common.{◌≤◌, ◌∙◌, List, ap, arith, length, refl, slice_get}
 use Rattle.std.proofs.lemmas.Option.{slice_get-get_or}
 use Rattle.std.proofs.lemmas.List.{take_all}
 use Rattle.protocol_runs.specs.World as runs

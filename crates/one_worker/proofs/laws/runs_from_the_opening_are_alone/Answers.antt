@@ -1,5 +1,0 @@
-use Rattle.one_worker.proofs.Views.{alone-all}
-use Rattle.one_worker.proofs.laws.runs_from_the_opening_are_alone.Goals as goal
-
-pub returns : goal.returns
-returns g c = λ drive. alone-all drive

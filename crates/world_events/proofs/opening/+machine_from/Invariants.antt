@@ -1,5 +1,0 @@
-use Rattle.std.proofs.Common.{length}
-use Rattle.world_events.proofs.opening.+machine_from.Given as goal
-
-abbrev pub decreases-machine_from : goal.decreases-machine_from
-decreases-machine_from l = length l.counts.now
