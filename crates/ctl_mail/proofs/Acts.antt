@@ -52,7 +52,10 @@ module _ (mail : Mail) (old : Told) where
       ap (λ (after : Mail). record { mail = after; acts = record old.acts { again = true } }) (sym (after-more old.cycle mail old.log (Mark (old.cycle + 1))))
 
 -- other acts of the same scan, by which the same messages are gone
-module _ (queues : Queues) (stalled : List Stalled) (old : Told) (counts : SendCounts) (log : List MailAct) (acts : Acts) (woken : acts.woken ≡ old.acts.woken) where
+module _ (queues : Queues) (stalled : List Stalled) (old : Told) (counts : SendCounts) (log : List MailAct) (acts : Acts) (woken : acts.woken ≡ old.acts.woken) (stalled_still : acts.stalled ≡ old.acts.stalled) where
+  still-parked : (n : MsgNo) → Contains old.acts.stalled n → Contains acts.stalled n
+  still-parked n has = subst (λ (ns : List MsgNo). Contains ns n) (sym stalled_still) has
+
   abbrev told_as : Told
   told_as = record old { counts = counts; log = log; acts = acts }
 
@@ -69,6 +72,7 @@ module _ (queues : Queues) (stalled : List Stalled) (old : Told) (counts : SendC
     );
     back = λ s has none. subst (λ (ns : List MsgNo). Contains ns s.message.number) (sym woken) (reflects.back s has none);
     moved = reflects.moved;
+    parked = λ n waits. still-parked n (reflects.parked n waits);
   }
 
   -- one message more is gone, and the inbox no longer has it
@@ -98,6 +102,7 @@ module _ (queues : Queues) (stalled : List Stalled) (old : Told) (counts : SendC
       );
       back = λ s has none. subst (λ (ns : List MsgNo). Contains ns s.message.number) (sym woken) (reflects.back s has none);
       moved = reflects.moved;
+      parked = λ n waits. still-parked n (reflects.parked n waits);
     }
 
 -- the messages of a number are all others, or arrive later
@@ -174,7 +179,7 @@ are-of-recycle store old buffer arrival m later is are =
     let at : arrival ≡ o.message.arrival = ap (λ (z : InboxMessage). z.message.arrival) same in
     absurd (omega arith) in (
       subst (λ (after : Mail). Reflects store.buffers.items store.stalls.kept new after.inbox) (sym (recycled-mail (mail_of store) old buffer arrival m is))
-          (reflects-gone store.buffers.items store.stalls.kept old old.counts new.log new.acts refl m.number
+          (reflects-gone store.buffers.items store.stalls.kept old old.counts new.log new.acts refl refl m.number
           (λ n gone. ⊎_elim (λ consumed. inl (inl consumed)) (λ recycled. ⊎_elim (λ has. inl (inr has)) (λ same. inr same) (Contains-push_cases old.acts.recycled m.number n recycled)) gone)
           (λ n gone. ⊎_elim (λ consumed. inl consumed) (λ recycled. inr (Contains-append_left old.acts.recycled (m.number ∷ []) n recycled)) gone)
           (inr (Contains-push old.acts.recycled m.number))
@@ -189,6 +194,6 @@ pub are-of-again : (store : MailStore) (old : Told) (cycle : ℕ) → AreOf stor
 are-of-again store old cycle are =
     let new = told_again old cycle in (
       subst (λ (mail : Mail). Reflects store.buffers.items store.stalls.kept new mail.inbox) (sym (after-more old.cycle (mail_of store) old.log (Mark cycle)))
-          (reflects-as store.buffers.items store.stalls.kept old old.counts new.log new.acts refl (changed_mail (mail_of store) old).inbox (λ n gone. gone) (λ n gone. gone) are.0),
+          (reflects-as store.buffers.items store.stalls.kept old old.counts new.log new.acts refl refl (changed_mail (mail_of store) old).inbox (λ n gone. gone) (λ n gone. gone) are.0),
       fits-act (mail_of store) old (Mark cycle) new.acts old.moves tt tt are.1,
     )

@@ -1,18 +1,15 @@
 -- Where messages wait after a log of moves, by what its entries are.
-use Rattle.std.proofs.Common.{◌≡◌, ◌≢◌, ◌⊎◌, ◌++◌, ◌<◌, ◌+◌, ℕ, take, length, get_or, Bool, true, false, cond, Option, List, [], ◌∷◌, refl, sym, subst, ap, ◌∙◌, inl, inr, ⊎_elim, Contains, map}
-use Rattle.std.proofs.lemmas.List.{take_more}
-use Rattle.std.proofs.lemmas.List.Sums.{fold-append}
+use Rattle.std.proofs.Common.{◌≡◌, ◌≢◌, ◌⊎◌, ℕ, Bool, true, false, cond, Option, List, [], ◌∷◌, refl, sym, subst, ap, ◌∙◌, inl, inr, ⊎_elim, Contains}
 use Rattle.ruby_value.specs.declared.message.MsgNo.{MsgNo}
-use Rattle.ruby_value.specs.Prelude.{same_number}
+use Rattle.ruby_value.specs.Prelude.{number_before, same_number}
 use Rattle.ruby_value.proofs.Contained.{Contains-cons_cases, Contains-cons_here, Contains-cons_there}
 use Rattle.ctl_face.proofs.Held.{nothing-there}
 use Rattle.ctl_mail.specs.declared.moves.Move.{Move}
-use Rattle.ctl_mail.specs.Prelude.{after_move, waiting_after}
+use Rattle.ctl_mail.specs.Prelude.{after_move}
+use Rattle.ctl_mail.specs.Moves.{waiting_after, with_move, with_moves}
 use Rattle.ctl_mail.proofs.Inboxes.{differ-test, same-or-not, same-test}
-
--- the messages of these numbers wait so
-abbrev pub moves_to : Option ℕ → List MsgNo → List Move
-moves_to waiting numbers = map (λ (number : MsgNo). record { number = number; line = waiting }) numbers
+use Rattle.ctl_mail.proofs.Inserts.{inserted-from}
+use Rattle.ctl_mail.proofs.Numbered.{found-with}
 
 -- one number is in a list or isn't
 pub in-or-not : (numbers : List MsgNo) (n : MsgNo) → Contains numbers n ⊎ (Contains numbers n → ⊥)
@@ -28,10 +25,6 @@ in-or-not (x ∷ xs) n =
     (same-or-not x n)
 
 module _ (n : MsgNo) where
-  pub after-append : (xs ys : List Move) (before : Option ℕ) → waiting_after n (xs ++ ys) before ≡ waiting_after n ys (waiting_after n xs before)
-  unfolding waiting_after
-  after-append xs ys before = fold-append (after_move n) before xs ys
-
   pub after-nothing : (before : Option ℕ) → waiting_after n [] before ≡ before
   unfolding waiting_after
   after-nothing before = refl
@@ -46,41 +39,50 @@ module _ (n : MsgNo) where
   pub move-of-other : (m : Move) (before : Option ℕ) → m.number ≢ n → after_move n before m ≡ before
   move-of-other m before apart = ap (λ b. cond b m.line before) (differ-test m.number n apart)
 
+  -- after one move more
+  pub after-with : (moves : List Move) (number : MsgNo) (line before : Option ℕ)
+      → waiting_after n (with_move moves number line) before ≡ cond (same_number number n) line (waiting_after n moves before)
+  unfolding waiting_after with_move
+  after-with moves number line before =
+      found-with (λ (m : Move). m.number) (λ (m : Move). m.line) n moves (record { number = number; line = line }) before
+
+  with-nothing : (moves : List Move) (w : Option ℕ) → with_moves moves w [] ≡ moves
+  unfolding with_moves
+  with-nothing moves w = refl
+
+  with-cons : (moves : List Move) (w : Option ℕ) (x : MsgNo) (xs : List MsgNo) → with_moves moves w (x ∷ xs) ≡ with_moves (with_move moves x w) w xs
+  unfolding with_moves
+  with-cons moves w x xs = refl
+
   -- what waits so already still does
-  stays : (w : Option ℕ) (numbers : List MsgNo) → waiting_after n (moves_to w numbers) w ≡ w
-  stays w [] = after-nothing w
-  stays w (x ∷ xs) =
-      after-cons (record { number = x; line = w }) (moves_to w xs) w
-      ∙ (ap (waiting_after n (moves_to w xs)) (either (same_number x n)) ∙ stays w xs)
+  stays : (moves : List Move) (w : Option ℕ) (numbers : List MsgNo) (before : Option ℕ) → waiting_after n moves before ≡ w → waiting_after n (with_moves moves w numbers) before ≡ w
+  stays moves w [] before so = ap (λ ms. waiting_after n ms before) (with-nothing moves w) ∙ so
+  stays moves w (x ∷ xs) before so =
+      ap (λ ms. waiting_after n ms before) (with-cons moves w x xs)
+      ∙ stays (with_move moves x w) w xs before (after-with moves x w before ∙ (ap (cond (same_number x n) w) so ∙ either (same_number x n)))
     where
       either : (b : Bool) → cond b w w ≡ w
       either true = refl
       either false = refl
 
-  moved-in : (w : Option ℕ) (numbers : List MsgNo) (before : Option ℕ) → Contains numbers n → waiting_after n (moves_to w numbers) before ≡ w
-  moved-in w [] before has = absurd (nothing-there n has)
-  moved-in w (x ∷ xs) before has =
-      after-cons (record { number = x; line = w }) (moves_to w xs) before
+  -- after more moves that make some messages wait so
+  pub waits-in : (moves : List Move) (w : Option ℕ) (numbers : List MsgNo) (before : Option ℕ) → Contains numbers n → waiting_after n (with_moves moves w numbers) before ≡ w
+  waits-in moves w [] before has = absurd (nothing-there n has)
+  waits-in moves w (x ∷ xs) before has =
+      ap (λ ms. waiting_after n ms before) (with-cons moves w x xs)
       ∙ ⊎_elim
-      (λ same. ap (waiting_after n (moves_to w xs)) (move-of (record { number = x; line = w }) before same) ∙ stays w xs)
-      (λ there. moved-in w xs (after_move n before (record { number = x; line = w })) there)
+      (λ same. stays (with_move moves x w) w xs before (after-with moves x w before ∙ ap (λ b. cond b w (waiting_after n moves before)) (same-test x n same)))
+      (λ there. waits-in (with_move moves x w) w xs before there)
       (Contains-cons_cases x n xs has)
 
-  moved-out : (w : Option ℕ) (numbers : List MsgNo) (before : Option ℕ) → (Contains numbers n → ⊥) → waiting_after n (moves_to w numbers) before ≡ before
-  moved-out w [] before none = after-nothing before
-  moved-out w (x ∷ xs) before none =
-      after-cons (record { number = x; line = w }) (moves_to w xs) before
-      ∙ (ap (waiting_after n (moves_to w xs))
-      (move-of-other (record { number = x; line = w }) before (λ same. none (subst (Contains (x ∷ xs)) same (Contains-cons_here x xs))))
-      ∙ moved-out w xs before (λ has. none (Contains-cons_there x n xs has)))
-
-  -- after more moves that make some messages wait so
-  pub waits-in : (moves : List Move) (w : Option ℕ) (numbers : List MsgNo) (before : Option ℕ) → Contains numbers n → waiting_after n (moves ++ moves_to w numbers) before ≡ w
-  waits-in moves w numbers before has = after-append moves (moves_to w numbers) before ∙ moved-in w numbers (waiting_after n moves before) has
-
   pub waits-out : (moves : List Move) (w : Option ℕ) (numbers : List MsgNo) (before : Option ℕ) → (Contains numbers n → ⊥)
-      → waiting_after n (moves ++ moves_to w numbers) before ≡ waiting_after n moves before
-  waits-out moves w numbers before none = after-append moves (moves_to w numbers) before ∙ moved-out w numbers (waiting_after n moves before) none
+      → waiting_after n (with_moves moves w numbers) before ≡ waiting_after n moves before
+  waits-out moves w [] before none = ap (λ ms. waiting_after n ms before) (with-nothing moves w)
+  waits-out moves w (x ∷ xs) before none =
+      ap (λ ms. waiting_after n ms before) (with-cons moves w x xs)
+      ∙ (waits-out (with_move moves x w) w xs before (λ has. none (Contains-cons_there x n xs has))
+      ∙ (after-with moves x w before
+      ∙ ap (λ b. cond b w (waiting_after n moves before)) (differ-test x n (λ same. none (subst (Contains (x ∷ xs)) same (Contains-cons_here x xs))))))
 
   -- what waits otherwise than before has an entry
   pub has-entry : (moves : List Move) (before : Option ℕ) → waiting_after n moves before ≢ before → (m : Move) × Contains moves m × (m.number ≡ n)
@@ -122,11 +124,16 @@ module _ (n : MsgNo) where
       (Contains-cons_cases x m xs has)
       ∙ sym (after-cons x xs b))
 
-  -- one entry further
-  pub after-take : (moves : List Move) (i : ℕ) (d : Move) (before : Option ℕ) → i < length moves
-      → waiting_after n (take (i + 1) moves) before ≡ after_move n (waiting_after n (take i moves) before) (get_or moves i d)
-  after-take moves i d before within =
-      let m = get_or moves i d in
-      ap (λ ms. waiting_after n ms before) (take_more moves i d within)
-      ∙ (after-append (take i moves) (m ∷ []) before
-      ∙ (after-cons m [] (waiting_after n (take i moves) before) ∙ after-nothing (after_move n (waiting_after n (take i moves) before) m)))
+-- each move is one that was there, or of one of these messages
+pub moves-from : (moves : List Move) (w : Option ℕ) (numbers : List MsgNo) (m : Move) → Contains (with_moves moves w numbers) m → Contains moves m ⊎ Contains numbers m.number
+unfolding with_moves with_move
+moves-from moves w [] m has = inl has
+moves-from moves w (x ∷ xs) m has =
+    ⊎_elim
+    (λ earlier.
+    ⊎_elim
+    (λ (is : record { number = x; line = w } ≡ m). inr (subst (Contains (x ∷ xs)) (ap (λ (z : Move). z.number) is) (Contains-cons_here x xs)))
+    inl
+    (inserted-from (λ (a b : Move). number_before a.number b.number) moves (record { number = x; line = w }) m earlier))
+    (λ there. inr (Contains-cons_there x m.number xs there))
+    (moves-from (with_move moves x w) w xs m has)

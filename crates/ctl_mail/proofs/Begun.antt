@@ -37,6 +37,7 @@ begun store cycle is = record {
   );
   back = λ s has none. absurd (some-line s.line _ (after-nothing s.message.number (Some s.line)) none);
   moved = λ move has. absurd (nothing-there move has);
+  parked = λ number waits. absurd (waits (after-nothing number None));
 }
 
 pub are-of-none : (store : MailStore) (cycle : ℕ) → IsMail store → AreOf store (told_begun (counts_in (mail_of store)) cycle)

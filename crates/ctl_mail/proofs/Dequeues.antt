@@ -85,7 +85,7 @@ are-of-dequeue store old actor buffer m is are =
     ap (λ (x : Mail). x.inbox) (dequeued-mail (mail_of store) old actor buffer m is)
     ∙ inbox-credited (mail_without (changed_mail (mail_of store) old) m) credit (is_own_credit actor buffer m.number) in (
       subst (λ (xs : List InboxMessage). Reflects store.buffers.items store.stalls.kept new xs) (sym after)
-          (reflects-gone store.buffers.items store.stalls.kept old old.counts new.log new.acts refl m.number
+          (reflects-gone store.buffers.items store.stalls.kept old old.counts new.log new.acts refl refl m.number
           (λ n gone. ⊎_elim (λ consumed. ⊎_elim (λ has. inl (inl has)) (λ same. inr same) (Contains-push_cases old.acts.consumed m.number n consumed)) (λ recycled. inl (inr recycled)) gone)
           (λ n gone. ⊎_elim (λ consumed. inl (Contains-append_left old.acts.consumed (m.number ∷ []) n consumed)) (λ recycled. inr recycled) gone)
           (inl (Contains-push old.acts.consumed m.number))

@@ -1,4 +1,4 @@
--- The numbers that are found as a wake goes along the stalled messages, or along the moves of the scan.
+-- The numbers that are found as a wake goes along the stalled messages, or along those that the scan has stalled.
 use Rattle.std.proofs.Common.{◌≡◌, ◌≢◌, true, ◌⊎◌, ◌<◌, ◌≤◌, ◌+◌, ℕ, not, Option, None, Some, List, [], ◌∷◌, refl, sym, subst, ap, ◌∙◌, inl, inr, ⊎_elim, length, Contains, filter, get_or, take}
 use Rattle.std.proofs.lemmas.Bool.{eq-eqb, eqb-true}
 use Rattle.std.proofs.lemmas.List.{take_all, take_more}
@@ -8,11 +8,9 @@ use Rattle.ruby_value.specs.declared.message.MsgNo.{MsgNo}
 use Rattle.stall_map.specs.declared.stalled.Stalled.{Stalled}
 use Rattle.stall_map.specs.Prelude.{Ascends, is_above, is_under, messages_under, next_after, numbers_under}
 use Rattle.ctl_face.proofs.Held.{from-filter, from-map, in-filter, nothing-there, to-map}
-use Rattle.ctl_mail.specs.declared.moves.Move.{Move}
 use Rattle.ctl_mail.specs.declared.moves.Waking.{Waking}
 use Rattle.ctl_mail.specs.declared.moves.Waking.TheVariants.{All, Line}
-use Rattle.ctl_mail.specs.Prelude.{Adds, NumbersRise, is_woken, waiting_after, IsWoken, IsWokenMoved, IsWokenSo, IsWokenStalled, IsWokenUnder, Told}
-use Rattle.ctl_mail.proofs.AfterMoves.{last-entry}
+use Rattle.ctl_mail.specs.Prelude.{Adds, NumbersRise, is_woken, IsWoken, IsWokenAmong, IsWokenStalled, IsWokenUnder, Told}
 use Rattle.ctl_mail.proofs.Passed.{passed, passed-all, passed-from, passed-none, passed-to}
 use Rattle.ctl_mail.proofs.Rises.{adds-as, adds-both, adds-none}
 
@@ -32,59 +30,37 @@ woken-waits All None is none = absurd (cc is)
 woken-waits waking (Some l) is none = cc none
 
 module _ (told : Told) (waking : Waking) where
-  -- one of these moves has it so
-  pub record IsWokenBy (moves : List Move) (n : MsgNo) : Type 0 where
-    pub it : Move
-    pub held : Contains moves it
-    pub is : IsWokenSo told waking it n
-
-  module _ (moves : List Move) (i : ℕ) (d : Move) (within : i < length moves) where
+  module _ (numbers : List MsgNo) (i : ℕ) (d : MsgNo) (within : i < length numbers) where
     abbrev At : MsgNo → Type 0
-    At n = IsWokenSo told waking (get_or moves i d) n
+    At n = IsWoken told waking (get_or numbers i d) None × (get_or numbers i d ≡ n)
 
-    moved-to : (n : MsgNo) → IsWokenBy (take i moves) n ⊎ At n → IsWokenBy (take (i + 1) moves) n
-    moved-to n either =
+    among-to : (n : MsgNo) → IsWokenAmong (take i numbers) told waking n ⊎ At n → IsWokenAmong (take (i + 1) numbers) told waking n
+    among-to n either =
         ⊎_elim
-        (λ (is : IsWokenBy (take i moves) n). record { it = is.it; held = more-old moves i is.it within is.held; is = is.is })
-        (λ (is : At n). record { it = get_or moves i d; held = more-new moves i d within; is = is })
+        (λ (is : IsWokenAmong (take i numbers) told waking n). record { among = more-old numbers i n within is.among; is = is.is })
+        (λ (is : At n). record {
+          among = subst (Contains (take (i + 1) numbers)) is.1 (more-new numbers i d within);
+          is = subst (λ (k : MsgNo). IsWoken told waking k None) is.1 is.0;
+        })
         either
 
-    moved-from : (n : MsgNo) → IsWokenBy (take (i + 1) moves) n → IsWokenBy (take i moves) n ⊎ At n
-    moved-from n is =
+    among-from : (n : MsgNo) → IsWokenAmong (take (i + 1) numbers) told waking n → IsWokenAmong (take i numbers) told waking n ⊎ At n
+    among-from n is =
         ⊎_elim
-        (λ there. inl (record { it = is.it; held = there; is = is.is }))
-        (λ same. inr (subst (λ (m : Move). IsWokenSo told waking m n) (sym same) is.is))
-        (more-from moves i d is.it within is.held)
+        (λ there. inl (record { among = there; is = is.is }))
+        (λ same. inr (subst (λ (k : MsgNo). IsWoken told waking k None) (sym same) is.is, same))
+        (more-from numbers i d n within is.among)
 
-    pub moved-more : (a b c : List MsgNo) → Adds a (IsWokenBy (take i moves)) b → Adds b At c → Adds a (IsWokenBy (take (i + 1) moves)) c
-    moved-more a b c first second =
-        adds-as (λ n. IsWokenBy (take i moves) n ⊎ At n) (IsWokenBy (take (i + 1) moves)) a c moved-to moved-from (adds-both (IsWokenBy (take i moves)) At a b c first second)
+    pub among-more : (a b c : List MsgNo) → Adds a (IsWokenAmong (take i numbers) told waking) b → Adds b At c → Adds a (IsWokenAmong (take (i + 1) numbers) told waking) c
+    among-more a b c first second =
+        adds-as (λ n. IsWokenAmong (take i numbers) told waking n ⊎ At n) (IsWokenAmong (take (i + 1) numbers) told waking) a c among-to among-from
+        (adds-both (IsWokenAmong (take i numbers) told waking) At a b c first second)
 
-  pub moved-none : (moves : List Move) (a : List MsgNo) → NumbersRise a → Adds a (IsWokenBy (take 0 moves)) a
-  moved-none moves a rises = adds-none (IsWokenBy (take 0 moves)) a rises (λ n is. nothing-there is.it is.held)
+  pub among-none : (numbers a : List MsgNo) → NumbersRise a → Adds a (IsWokenAmong (take 0 numbers) told waking) a
+  among-none numbers a rises = adds-none (IsWokenAmong (take 0 numbers) told waking) a rises (λ n is. nothing-there n is.among)
 
-  -- what waits since a move, waits so since its last one
-  pub moved-all : (moves : List Move) (i : ℕ) → moves ≡ told.moves → length moves ≤ i → (a b : List MsgNo) → Adds a (IsWokenBy (take i moves)) b → Adds a (IsWokenMoved moves told waking) b
-  moved-all moves i all past a b adds =
-      adds-as (IsWokenBy (take i moves)) (IsWokenMoved moves told waking) a b
-      (λ n is. record { it = is.it; held = subst (λ ms. Contains ms is.it) (take_all i moves past) is.held; is = is.is.is; number_is = is.is.number_is })
-      (λ n is.
-      let number = is.it.number in
-      ⊎_elim
-      (λ (stays : waiting_after number told.moves None ≡ None).
-      absurd (woken-waits waking (waiting_after number told.moves None) is.is.woken stays))
-      (λ (last : (m : Move) × Contains told.moves m × (m.number ≡ number) × (m.line ≡ waiting_after number told.moves None)).
-      record {
-        it = last.0;
-        held = subst (λ ms. Contains ms last.0) (sym (take_all i moves past ∙ all)) last.1;
-        is = record {
-          so = ap (is_woken waking) last.3 ∙ is.is.woken;
-          is = subst (λ k. IsWoken told waking k None) (sym last.2) is.is;
-          number_is = last.2 ∙ is.number_is;
-        };
-      })
-      (last-entry number told.moves None))
-      adds
+  pub among-all : (numbers : List MsgNo) (i : ℕ) → length numbers ≤ i → (a b : List MsgNo) → Adds a (IsWokenAmong (take i numbers) told waking) b → Adds a (IsWokenAmong numbers told waking) b
+  among-all numbers i past a b adds = subst (λ (ns : List MsgNo). Adds a (IsWokenAmong ns told waking) b) (take_all i numbers past) adds
 
   -- the next of all that wait
   module _ (stalled : List Stalled) (ascends : Ascends stalled) (number : Option MsgNo) (s : Stalled) (next : next_after stalled number ≡ Some s) where

@@ -19,9 +19,11 @@ mod Lends
 mod Located
 mod Leasts
 pub mod Locals
+mod Logs
 mod Makes
 mod AfterMoves
 mod NextMarks
+mod Numbered
 mod Passed
 mod Pops
 mod Puts
@@ -32,6 +34,7 @@ mod StallActs
 mod WakeActs
 mod WakeMakes
 mod Members
+mod InPlace
 mod Places
 mod Sending
 mod SentActs

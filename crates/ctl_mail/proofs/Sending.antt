@@ -176,6 +176,7 @@ reflects-copied queues stalled told mail true m later fresh reflects = record {
   );
   back = reflects.back;
   moved = reflects.moved;
+  parked = reflects.parked;
 }
 
 pub are-copied : (store : MailStore) (me : ℕ) (routes : Routes) (drawn : Bool) (c : Delivery Message) (old : Told) → old.cycle ≤ 10 ^ 12 → MaySend me old.cycle 1 (changed_mail (mail_of store) old)
@@ -187,7 +188,7 @@ are-copied store me routes drawn c old le may later number are =
     let new = told_with_copy me routes drawn c old in (
       subst (λ (m : Mail). Reflects store.buffers.items store.stalls.kept new m.inbox) (sym (after-copy (mail_of store) me routes drawn c old))
           (reflects-copied store.buffers.items store.stalls.kept new mail (eqb c.receiver me) c.message later fresh
-          (reflects-as store.buffers.items store.stalls.kept old new.counts new.log new.acts refl mail.inbox (λ n gone. gone) (λ n gone. gone) are.0)),
+          (reflects-as store.buffers.items store.stalls.kept old new.counts new.log new.acts refl refl mail.inbox (λ n gone. gone) (λ n gone. gone) are.0)),
       fits-copy (mail_of store) me routes drawn c old (counts-fit me old.cycle mail le may) (lent-fit me old.cycle mail le may) (λ _. fresh) are.1,
     )
 
@@ -197,7 +198,7 @@ written-reflects : (store : MailStore) (old : Told) (act : MailAct) → (after_a
 written-reflects store old act same are =
     let new = told_with_act act old in
     subst (Reflects store.buffers.items store.stalls.kept new) (sym (ap (λ (m : Mail). m.inbox) (after-act (mail_of store) act old) ∙ same))
-    (reflects-as store.buffers.items store.stalls.kept old new.counts new.log new.acts refl (changed_mail (mail_of store) old).inbox (λ n gone. gone) (λ n gone. gone) are.0)
+    (reflects-as store.buffers.items store.stalls.kept old new.counts new.log new.acts refl refl (changed_mail (mail_of store) old).inbox (λ n gone. gone) (λ n gone. gone) are.0)
 
 pub are-last : (store : MailStore) (network receiver arrival : ℕ) (old : Told) → AreOf store old → AreOf store (told_with_act (NetworkLast network receiver arrival) old)
 are-last store network receiver arrival old are = (

@@ -1,14 +1,12 @@
 -- Some messages of the changed inbox wait under a line from now on, or wait no longer: the changes still say what is left.
-use Rattle.std.proofs.Common.{◌≡◌, ◌⊎◌, ◌++◌, ℕ, Option, None, Some, List, sym, subst, ap, ◌∙◌, ⊎_elim, Contains}
-use Rattle.std.proofs.lemmas.List.Elements.{Contains-append_cases}
+use Rattle.std.proofs.Common.{◌≡◌, ◌≢◌, ◌⊎◌, ℕ, Option, None, Some, List, sym, subst, ap, ◌∙◌, ⊎_elim, Contains}
 use Rattle.ruby_value.specs.declared.message.MsgNo.{MsgNo}
 use Rattle.stall_map.specs.declared.stalled.Stalled.{Stalled}
 use Rattle.ctl_face.specs.Prelude.{InboxMessage, NumbersAscend}
-use Rattle.ctl_face.proofs.Held.{from-map}
 use Rattle.ctl_mail.specs.declared.moves.Move.{Move}
-use Rattle.ctl_mail.specs.Prelude.{Has, Holds, waiting_after, Queues, IsGone, IsLeft, IsSeen, Reflects, Told}
+use Rattle.ctl_mail.specs.Prelude.{Has, Holds, waiting_after, with_moves, Queues, IsGone, IsLeft, IsSeen, Reflects, Told}
 use Rattle.ctl_mail.proofs.Inboxes.{one-of-ascending}
-use Rattle.ctl_mail.proofs.AfterMoves.{in-or-not, moves_to, waits-in, waits-out}
+use Rattle.ctl_mail.proofs.AfterMoves.{in-or-not, moves-from, waits-in, waits-out}
 
 abbrev pub waiting_so : Option ℕ → InboxMessage → InboxMessage
 waiting_so w q = record { message = q.message; waiting = w }
@@ -25,9 +23,10 @@ pub record IsShifted (before after : List InboxMessage) (cycle : ℕ) (numbers :
 
 module _ (queues : Queues) (stalled : List Stalled) (old new : Told) (numbers : List MsgNo) (w : Option ℕ) (before after : List InboxMessage)
     (holds : Holds queues stalled) (reflects : Reflects queues stalled old before) (is : IsShifted before after old.cycle numbers w)
-    (cycle : new.cycle ≡ old.cycle) (moves : new.moves ≡ old.moves ++ moves_to w numbers)
+    (cycle : new.cycle ≡ old.cycle) (moves : new.moves ≡ with_moves old.moves w numbers)
     (gone_to : (n : MsgNo) → IsGone old.acts n → IsGone new.acts n) (gone_from : (n : MsgNo) → IsGone new.acts n → IsGone old.acts n)
-    (woken_on : (n : MsgNo) → Contains old.acts.woken n → Contains new.acts.woken n) (woken_in : w ≡ None → (n : MsgNo) → Contains numbers n → Contains new.acts.woken n) where
+    (woken_on : (n : MsgNo) → Contains old.acts.woken n → Contains new.acts.woken n) (woken_in : w ≡ None → (n : MsgNo) → Contains numbers n → Contains new.acts.woken n)
+    (stalled_on : (n : MsgNo) → Contains old.acts.stalled n → Contains new.acts.stalled n) (stalled_in : w ≢ None → (n : MsgNo) → Contains numbers n → Contains new.acts.stalled n) where
   now-in : (n : MsgNo) (b : Option ℕ) → Contains numbers n → waiting_after n new.moves b ≡ w
   now-in n b has = ap (λ ms. waiting_after n ms b) moves ∙ waits-in n old.moves w numbers b has
 
@@ -94,16 +93,21 @@ module _ (queues : Queues) (stalled : List Stalled) (old new : Told) (numbers : 
       (λ out. woken_on s.message.number (reflects.back s has (sym (now-out s.message.number (Some s.line) out) ∙ back)))
       (in-or-not numbers s.message.number)
 
-  of-move : (m : Move) → Contains (old.moves ++ moves_to w numbers) m → (o : InboxMessage) × Has queues stalled o × (o.message.number ≡ m.number)
+  of-move : (m : Move) → Contains (with_moves old.moves w numbers) m → (o : InboxMessage) × Has queues stalled o × (o.message.number ≡ m.number)
   of-move m has =
       ⊎_elim
       (λ earlier. reflects.moved m earlier)
       (λ later.
-      let so = from-map (λ (number : MsgNo). record { number = number; line = w }) numbers m later in
-      let q = left-of so.0 so.1 in
-      let number : so.0 ≡ m.number = ap (λ (z : Move). z.number) so.2 in
-      (record { message = q.0.message; waiting = q.3.before }, q.3.held, q.2 ∙ number))
-      (Contains-append_cases old.moves (moves_to w numbers) m has)
+      let q = left-of m.number later in
+      (record { message = q.0.message; waiting = q.3.before }, q.3.held, q.2))
+      (moves-from old.moves w numbers m has)
+
+  parked-so : (n : MsgNo) → waiting_after n new.moves None ≢ None → Contains new.acts.stalled n
+  parked-so n waits =
+      ⊎_elim
+      (λ in_numbers. stalled_in (λ none. waits (now-in n None in_numbers ∙ none)) n in_numbers)
+      (λ out. stalled_on n (reflects.parked n (λ none. waits (now-out n None out ∙ none))))
+      (in-or-not numbers n)
 
   pub shifted : Reflects queues stalled new after
   shifted = record {
@@ -123,4 +127,5 @@ module _ (queues : Queues) (stalled : List Stalled) (old new : Told) (numbers : 
     );
     back = was-woken;
     moved = λ m has. of-move m (subst (λ ms. Contains ms m) moves has);
+    parked = parked-so;
   }

@@ -1,6 +1,6 @@
 -- The front of a buffer is stalled: as a change, and in the mail as it is kept.
 use Rattle.std.proofs.Common.{◌≡◌, ◌≢◌, ◌⊎◌, ◌<◌, ◌≤◌, ◌+◌, ◌++◌, ℕ, Bool, get_or, filter, length-append, arith, Option, None, Some, Ok, Err, List, [], ◌∷◌, length, refl, sym, subst, ap, ◌∙◌, inl, inr, ⊎_elim, Contains}
-use Rattle.std.proofs.lemmas.List.Elements.{Contains-get_or}
+use Rattle.std.proofs.lemmas.List.Elements.{Contains-append_left, Contains-append_right, Contains-get_or}
 use Rattle.ruby_value.specs.declared.fault.Fault.TheVariants.{Front}
 use Rattle.ruby_value.specs.Prelude.{Roomy}
 use Rattle.ruby_value.specs.declared.message.Message.{Message}
@@ -15,7 +15,9 @@ use Rattle.ctl_face.proofs.Held.{nothing-there}
 use Rattle.ctl_face.proofs.Inboxes.{ascend-with}
 use Rattle.ctl_face.proofs.OneKey.{changed_message-contains, with_message-contains}
 use Rattle.ctl_mail.specs.declared.act.MailAct.TheVariants.{Stall}
+use Rattle.ctl_mail.specs.declared.moves.Move.{Move}
 use Rattle.ctl_mail.specs.declared.store.MailStore.{MailStore}
+use Rattle.ctl_mail.specs.Moves.{with_move, with_moves}
 use Rattle.ctl_mail.specs.Prelude.{Has, Holds, IsAt, inbox_of, IsFree, IsMail, IsNewIn, buffer_count, mail_of, view_after_front, view_stalled, Queues, AreOf, Reflects, Told, after_act, changed_mail, changed_view, mail_at_front}
 use Rattle.ctl_mail.proofs.SentActs.{fits-act}
 use Rattle.ctl_mail.proofs.Acts.{after-more, front-free}
@@ -30,7 +32,7 @@ abbrev pub told_stalled : Told → (buffer line : ℕ) → MsgNo → Told
 told_stalled old buffer line number = record old {
   log = old.log ++ Stall buffer line ∷ [];
   acts = record old.acts { stalled = old.acts.stalled ++ number ∷ [] };
-  moves = old.moves ++ record { number = number; line = Some line } ∷ [];
+  moves = with_move old.moves number (Some line);
 }
 
 module _ (mail : Mail) (old : Told) where
@@ -78,6 +80,10 @@ module _ (inbox : List InboxMessage) (cycle line : ℕ) (m : Message) (ascends :
             (inr (q, has, sym (only q.message.number is), refl));
       }
 
+one-move : (moves : List Move) (w : Option ℕ) (number : MsgNo) → with_move moves number w ≡ with_moves moves w (number ∷ [])
+unfolding with_moves
+one-move moves w number = refl
+
 some-is : (line : ℕ) → Some line ≢ None
 some-is line same = cc same
 
@@ -90,8 +96,9 @@ are-of-stall store old buffer line m holds is are =
     let free : IsFree mail.inbox buffer old.cycle m = front-free mail buffer old.cycle m is in (
       subst (λ (after : Mail). Reflects store.buffers.items store.stalls.kept new after.inbox) (sym (stalled-mail (mail_of store) old buffer line m is))
           (shifted store.buffers.items store.stalls.kept old new (m.number ∷ []) (Some line) mail.inbox (changed_message mail.inbox m.number (message_waiting_under line))
-          holds reflects (one-shifted mail.inbox old.cycle line m reflects.ascends free.held free.arrived) refl refl (λ n gone. gone) (λ n gone. gone)
-          (λ n has. has) (λ none. absurd (some-is line none))),
+          holds reflects (one-shifted mail.inbox old.cycle line m reflects.ascends free.held free.arrived) refl (one-move old.moves (Some line) m.number) (λ n gone. gone) (λ n gone. gone)
+          (λ n has. has) (λ none. absurd (some-is line none))
+          (λ n has. Contains-append_left old.acts.stalled (m.number ∷ []) n has) (λ _ n has. Contains-append_right old.acts.stalled (m.number ∷ []) n has)),
       fits-act (mail_of store) old (Stall buffer line) new.acts new.moves tt tt are.1,
     )
 

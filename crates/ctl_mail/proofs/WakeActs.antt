@@ -16,7 +16,7 @@ use Rattle.ctl_face.proofs.Inboxes.{Before, ascend-map}
 use Rattle.ctl_mail.specs.declared.moves.Waking.{Waking}
 use Rattle.ctl_mail.specs.declared.moves.Waking.TheVariants.{All, Line}
 use Rattle.ctl_mail.specs.declared.store.MailStore.{MailStore}
-use Rattle.ctl_mail.specs.Prelude.{Holds, IsAt, mail_of, view_woken, act_of, is_woken, moves_back, waiting_after, Adds, NumbersRise, Queues, AreOf, IsGone, IsSeen, IsWoken, IsWokenIn, IsWokenKept, IsWokenMoved, IsWokenStalled, IsWokenUnder, Reflects, Told, after_act, changed_mail, changed_view}
+use Rattle.ctl_mail.specs.Prelude.{Holds, IsAt, mail_of, view_woken, act_of, is_woken, waiting_after, with_moves, Adds, NumbersRise, Queues, AreOf, IsGone, IsSeen, IsWoken, IsWokenAmong, IsWokenIn, IsWokenKept, IsWokenMoved, IsWokenStalled, IsWokenUnder, Reflects, Told, after_act, changed_mail, changed_view}
 use Rattle.ctl_mail.proofs.SentActs.{IsLater, IsUncounted, fits-act}
 use Rattle.ctl_mail.proofs.Acts.{after-more}
 use Rattle.ctl_mail.proofs.AfterMoves.{has-entry, with-entry}
@@ -265,11 +265,23 @@ module _ (stalled : List Stalled) (told : Told) where
   in-kept (Line line) n either = ⊎_elim (in-under line n) (λ m. inr m) either
   in-kept All n either = either
 
+-- of those that the scan itself has moved, the ones that it has stalled are enough
+module _ (queues : Queues) (stalled : List Stalled) (told : Told) (inbox : List InboxMessage) (waking : Waking) (reflects : Reflects queues stalled told inbox) where
+  pub among-moved : (n : MsgNo) → IsWokenAmong told.acts.stalled told waking n → IsWokenMoved told.moves told waking n
+  among-moved n is =
+      let so = has-entry n told.moves None (woken-waits waking (waiting_after n told.moves None) is.is.woken) in
+      record { it = so.0; held = so.1; is = subst (λ (k : MsgNo). IsWoken told waking k None) (sym so.2) is.is; number_is = so.2 }
+
+  pub moved-among : (n : MsgNo) → IsWokenMoved told.moves told waking n → IsWokenAmong told.acts.stalled told waking n
+  moved-among n is =
+      let it : IsWoken told waking n None = subst (λ (k : MsgNo). IsWoken told waking k None) is.number_is is.is in
+      record { among = reflects.parked n (woken-waits waking (waiting_after n told.moves None) it.woken); is = it }
+
 abbrev pub told_woken : Told → Waking → List MsgNo → Told
 told_woken old waking numbers = record old {
   log = old.log ++ act_of waking ∷ [];
   acts = record old.acts { woken = old.acts.woken ++ numbers };
-  moves = old.moves ++ moves_back numbers;
+  moves = with_moves old.moves None numbers;
 }
 
 uncounted : (waking : Waking) → IsUncounted (act_of waking)
@@ -312,6 +324,7 @@ module _ (store : MailStore) (old : Told) (waking : Waking) (numbers : List MsgN
         subst (λ (after : Mail). Reflects store.buffers.items store.stalls.kept new after.inbox) (sym woken-is)
             (shifted store.buffers.items store.stalls.kept old new numbers None mail.inbox (woken_mail mail tested).inbox holds reflects
             (woken-shifted mail.inbox tested numbers old.cycle reflects.ascends hits (λ o is. woken-waits waking o.waiting is)) refl refl (λ n gone. gone) (λ n gone. gone)
-            (λ n has. Contains-append_left old.acts.woken numbers n has) (λ _ n has. Contains-append_right old.acts.woken numbers n has)),
+            (λ n has. Contains-append_left old.acts.woken numbers n has) (λ _ n has. Contains-append_right old.acts.woken numbers n has)
+            (λ n has. has) (λ waits. absurd (waits refl))),
         fits-act (mail_of store) old (act_of waking) new.acts new.moves (uncounted waking) (no-credit old.cycle waking) are.1,
       )

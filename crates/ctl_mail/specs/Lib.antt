@@ -4,6 +4,7 @@ pub mod Dequeued
 pub mod Inbox
 pub mod Lasts
 pub mod Least
+pub mod Log
 pub mod MailOf
 pub mod MailView
 pub mod Marks
@@ -16,4 +17,5 @@ pub mod Sends
 pub mod Sent
 pub mod Slots
 pub mod Told
+pub mod Words
 pub mod Prelude

@@ -1,11 +1,12 @@
 -- The room that a mail has: for how many more messages, marks, last arrivals, slots in use and credits.
-use Rattle.std.specs.Prelude.{◌+◌, ◌-◌, ◌≤◌, ◌<◌, ℕ, Bool, true, false, List, IfSome, count_by, length, slice_get, vec_capacity, vec_len}
+use Rattle.std.specs.Prelude.{◌+◌, ◌-◌, ◌≤◌, ◌<◌, ℕ, List, IfSome, count_by, length, slice_get, vec_capacity, vec_len}
 use Rattle.std.specs.List.{All}
 use Rattle.ruby_value.specs.Prelude.{Roomy}
 use Rattle.ctl_face.specs.Prelude.{Lasts}
 use Rattle.ctl_mail.specs.declared.act.MailAct.{MailAct}
-use Rattle.ctl_mail.specs.declared.act.MailAct.TheVariants.{Arrive, Credit, Lend, LocalLast, NetworkLast, Stall, Wake, WakeAll}
+use Rattle.ctl_mail.specs.declared.act.MailAct.TheVariants.{Arrive, Credit, Lend, LocalLast, NetworkLast}
 use Rattle.ctl_mail.specs.declared.store.MailStore.{MailStore}
+use Rattle.ctl_mail.specs.Log.{is_stall, is_wake}
 use Rattle.ctl_mail.specs.Queues.{room_of}
 use Rattle.ctl_mail.specs.Told.{Told}
 
@@ -17,15 +18,6 @@ lent_room store = vec_capacity store.lent - vec_len store.lent
 
 abbrev pub credit_room : MailStore → ℕ
 credit_room store = vec_capacity store.credits - vec_len store.credits
-
-abbrev pub is_stall : MailAct → Bool
-is_stall (Stall buffer line) = true
-is_stall act = false
-
-abbrev pub is_wake : MailAct → Bool
-is_wake (Wake line) = true
-is_wake WakeAll = true
-is_wake act = false
 
 -- each buffer has places for all messages that wait, and for so many more
 abbrev pub HasPlacesToWake : MailStore → ℕ → Type 0

@@ -1,21 +1,20 @@
 -- A copy that a scan sends, as one of its changes: it is counted, comes into the controller's own mail where that is the receiver,
--- takes a slot where its buffer has a size, and has a note; and which last arrivals the acts of a scan have written.
-use Rattle.std.specs.Prelude.{◌-◌, ◌+◌, ◌≤◌, ◌++◌, ◌==◌, ◌&&◌, ℕ, Bool, false, is_some, Option, Some, List, [], ◌∷◌, vec_capacity, vec_len, if◌then◌else◌}
-use Rattle.std.specs.VecDeque.{deque_capacity, deque_len}
+-- takes a slot where its buffer has a size, and has a note.
+use Rattle.std.specs.Prelude.{◌-◌, ◌+◌, ◌≤◌, ◌++◌, ◌==◌, ℕ, Bool, false, is_some, List, [], ◌∷◌, vec_capacity, vec_len, if◌then◌else◌}
 use Rattle.ruby_value.specs.declared.value.Value.{Value}
 use Rattle.ruby_value.specs.declared.message.Delivery.{Delivery}
 use Rattle.ruby_value.specs.declared.message.Message.{Message}
 use Rattle.ctl_face.specs.declared.routes.Routes.{Routes}
 use Rattle.ctl_face.specs.Prelude.{parcels_for_others, sent_of, size_of}
 use Rattle.ctl_mail.specs.declared.act.MailAct.{MailAct}
-use Rattle.ctl_mail.specs.declared.act.MailAct.TheVariants.{Arrive, Count, Lend, LocalLast, NetworkLast}
+use Rattle.ctl_mail.specs.declared.act.MailAct.TheVariants.{Arrive, Count, Lend}
 use Rattle.ctl_mail.specs.declared.changes.MailChanges.{MailChanges}
 use Rattle.ctl_mail.specs.declared.sent.SendCounts.{SendCounts}
 use Rattle.ctl_mail.specs.Told.{Told}
 
 -- room for so many more acts and copies
 pub record HasSpace (changes : MailChanges) (acts copies : ℕ) : Type 0 where
-  pub log : acts ≤ deque_capacity changes.log - deque_len changes.log
+  pub log : acts ≤ changes.log.room
   pub sent : copies ≤ vec_capacity changes.sent - vec_len changes.sent
   pub posted : copies ≤ vec_capacity changes.posted - vec_len changes.posted
 
@@ -57,12 +56,3 @@ told_with_copy me routes drawn c old = record old {
 
 abbrev pub told_with_act : MailAct → Told → Told
 told_with_act act old = record old { log = old.log ++ act ∷ [] }
-
--- a last arrival, or the one that the act writes there
-abbrev pub newer_network : (network receiver : ℕ) → Option ℕ → MailAct → Option ℕ
-newer_network network receiver found (NetworkLast other to arrival) = if other == network && to == receiver then Some arrival else found
-newer_network network receiver found _ = found
-
-abbrev pub newer_local : (buffer : ℕ) → Option ℕ → MailAct → Option ℕ
-newer_local buffer found (LocalLast other arrival) = if other == buffer then Some arrival else found
-newer_local buffer found _ = found

@@ -64,7 +64,7 @@ abbrev pub told_by : MailChanges → Told
 told_by changes = record {
   cycle = changes.cycle;
   counts = changes.counts;
-  log = changes.log.items;
+  log = changes.log.kept;
   acts = record {
     consumed = changes.consumed.items;
     stalled = changes.stalled.items;
@@ -74,7 +74,7 @@ told_by changes = record {
     posted = changes.posted.items;
     again = changes.again;
   };
-  moves = changes.moves.items;
+  moves = changes.moves.kept;
 }
 
 abbrev pub changed_mail : Mail → Told → Mail
@@ -115,11 +115,10 @@ pub record IsWokenMoved (moves : List Move) (told : Told) (waking : Waking) (num
   pub is : IsWoken told waking it.number None
   pub number_is : it.number ≡ number
 
--- or of one that waits so since a move
-pub record IsWokenSo (told : Told) (waking : Waking) (move : Move) (number : MsgNo) : Type 0 where
-  pub so : is_woken waking move.line ≡ true
-  pub is : IsWoken told waking move.number None
-  pub number_is : move.number ≡ number
+-- the number is one of these, and that of a woken message that didn't wait before the scan, or that the scan has moved
+pub record IsWokenAmong (numbers : List MsgNo) (told : Told) (waking : Waking) (number : MsgNo) : Type 0 where
+  pub among : Contains numbers number
+  pub is : IsWoken told waking number None
 
 -- the number is that of a woken message that was stalled under a line before the scan, and waits there still
 pub record IsWokenUnder (stalled : List Stalled) (told : Told) (line : ℕ) (number : MsgNo) : Type 0 where
@@ -156,6 +155,8 @@ pub record Reflects (queues : Queues) (stalled : List Stalled) (told : Told) (in
   pub back : (s : Stalled) → Contains stalled s → waiting_after s.message.number told.moves (Some s.line) ≡ None → Contains told.acts.woken s.message.number
   -- what was stalled or woken is in the kept mail
   pub moved : (move : Move) → Contains told.moves move → (o : InboxMessage) × Has queues stalled o × (o.message.number ≡ move.number)
+  -- what waits that was moved was stalled
+  pub parked : (number : MsgNo) → waiting_after number told.moves None ≢ None → Contains told.acts.stalled number
 
 -- the counts fit in 64 bits after one copy more
 pub record CountsFit (mail : Mail) : Type 0 where

@@ -4,6 +4,7 @@ ghost use Rattle.std.specs.Option.{option_copied};
 ghost use Rattle.ctl_face.specs.Prelude.{last_at, lasts_on, AreWithinLimits, arrival_after};
 ghost use Rattle.ctl_mail.specs.Prelude.{AreNext, actor_of, drawn_after, jitter_at, mail_after};
 
+use crate::kept_words::{KeptWords, words_at};
 use crate::{MailChanges, MailStore};
 use ctl_face::Routes;
 use pcg_words::Words;
@@ -24,7 +25,7 @@ fn network_last(store: &MailStore, changes: &MailChanges, network: u16, receiver
     let Some(lasts) = lasts_of(&store.network_last, network) else {
         return 0;
     };
-    if let Some(arrival) = changes.network_last(network, receiver) {
+    if let Some(arrival) = changes.log.network_last(network, receiver) {
         return arrival;
     }
     match lasts.get(u64::from(receiver)) {
@@ -37,7 +38,7 @@ fn network_last(store: &MailStore, changes: &MailChanges, network: u16, receiver
 fn local_last(store: &MailStore, changes: &MailChanges, buffer: u16) -> u64
     ensures { result ≡ last_at (mail_after store.now changes.now).local_last buffer }
 {
-    if let Some(arrival) = changes.local_last(buffer) {
+    if let Some(arrival) = changes.log.local_last(buffer) {
         return arrival;
     }
     match store.local_last.get(u64::from(buffer)) {
@@ -81,14 +82,37 @@ pub(crate) fn local_arrival(
     due.max(local_last(store, changes, buffer))
 }
 
-/// The words from the next one on, where the network has jitter.
-pub(crate) fn words_from(seed: u64, me: u32, routes: &Routes, drawn: u64) -> Option<Words>
+/// The words from the next one on, where the network has jitter: the kept ones, if they are those.
+pub(crate) fn words_from(
+    kept: &mut Option<KeptWords>,
+    seed: u64,
+    me: u32,
+    routes: &Routes,
+    drawn: u64,
+) -> Option<Words>
     ensures { AreNext (actor_of me seed routes.now) drawn result }
 {
     if routes.jitter == 0 {
         return None;
     }
-    Some(Words::at(seed, u64::from(me), drawn))
+    Some(words_at(kept.take(), seed, u64::from(me), drawn))
+}
+
+/// The words after the copies of a send, to be kept for the next one.
+pub(crate) fn to_be_kept(
+    words: Option<Words>,
+    seed: u64,
+    me: u32,
+    routes: &Routes,
+    drawn: u64,
+) -> Option<KeptWords>
+    requires { AreNext (actor_of me seed routes.now) drawn words }
+{
+    let _routes = routes;
+    match words {
+        Some(words) => Some(KeptWords::new(words, seed, u64::from(me), drawn)),
+        None => None,
+    }
 }
 
 /// The jitter of the next copy, for which a word is drawn where there are words.

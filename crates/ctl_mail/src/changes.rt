@@ -8,20 +8,22 @@ ghost use Rattle.ctl_mail.specs.Told.{AreOf, IsGone, counts_in, told_by};
 
 use crate::MailStore;
 use crate::act::MailAct;
-use crate::moves::Move;
+use crate::kept_words::KeptWords;
+use crate::log::ActLog;
+use crate::moved::Moves;
 use crate::sent::SendCounts;
 use ctl_face::{Credit, Parcel};
 use ruby_value::{Delivery, MsgNo, NoMemory, Sent, Seq};
 use std::alloc::Global;
-use std::collections::VecDeque;
 use std::mem;
 
-/// What a scan changes in the mail of a controller, kept beside the mail until it is made or dropped.
+/// What a scan changes in the mail of a controller, kept beside the mail until it is made or dropped. Beside it the words of the
+/// controller's stream are kept as its last send has left them.
 #[derive(Drop)]
 pub struct MailChanges {
     pub(crate) cycle: u64,
     pub(crate) counts: SendCounts,
-    pub(crate) log: VecDeque<MailAct>,
+    pub(crate) log: ActLog,
     pub(crate) consumed: Vec<MsgNo>,
     pub(crate) stalled: Vec<MsgNo>,
     pub(crate) woken: Vec<MsgNo>,
@@ -29,7 +31,8 @@ pub struct MailChanges {
     pub(crate) sent: Vec<Sent>,
     pub(crate) posted: Vec<Delivery<Parcel>>,
     pub(crate) again: bool,
-    pub(crate) moves: Vec<Move>,
+    pub(crate) moves: Moves,
+    pub(crate) words: Option<KeptWords>,
     pub(crate) alloc: Global,
 }
 
@@ -137,7 +140,7 @@ impl MailChanges {
         MailChanges {
             cycle: 0,
             counts,
-            log: VecDeque::new(alloc),
+            log: ActLog::new(alloc),
             consumed: Vec::new(alloc),
             stalled: Vec::new(alloc),
             woken: Vec::new(alloc),
@@ -145,7 +148,8 @@ impl MailChanges {
             sent: Vec::new(alloc),
             posted: Vec::new(alloc),
             again: false,
-            moves: Vec::new(alloc),
+            moves: Moves::new(alloc),
+            words: None,
             alloc,
         }
     }
@@ -173,7 +177,7 @@ impl MailChanges {
         ensures err { OnErr result (told_by self.new ≡ told_by self.old) }
     {
         self.consumed.reserve(1)?;
-        self.log.push_back(MailAct::Pop(buffer))?;
+        self.log.push(MailAct::Pop(buffer))?;
         self.consumed.push_reserved(number);
         Ok(())
     }
@@ -193,8 +197,8 @@ impl MailChanges {
     {
         self.consumed.reserve(1)?;
         self.log.reserve(2)?;
-        self.log.push_back_reserved(MailAct::Pop(buffer));
-        self.log.push_back_reserved(MailAct::Credit(credit));
+        self.log.push_reserved(MailAct::Pop(buffer));
+        self.log.push_reserved(MailAct::Credit(credit));
         self.consumed.push_reserved(number);
         Ok(())
     }
@@ -218,7 +222,7 @@ impl MailChanges {
     {
         self.consumed.reserve(1)?;
         self.posted.reserve(1)?;
-        self.log.push_back(MailAct::Pop(buffer))?;
+        self.log.push(MailAct::Pop(buffer))?;
         self.consumed.push_reserved(number);
         self.posted.push_reserved(Delivery {
             receiver,
@@ -241,7 +245,7 @@ impl MailChanges {
         ensures err { OnErr result (told_by self.new ≡ told_by self.old) }
     {
         self.recycled.reserve(1)?;
-        self.log.push_back(MailAct::Recycle(buffer, arrival))?;
+        self.log.push(MailAct::Recycle(buffer, arrival))?;
         self.recycled.push_reserved(number);
         Ok(())
     }
@@ -254,7 +258,7 @@ impl MailChanges {
         }) }
         ensures err { OnErr result (told_by self.new ≡ told_by self.old) }
     {
-        self.log.push_back(MailAct::Mark(cycle))?;
+        self.log.push(MailAct::Mark(cycle))?;
         self.again = true;
         Ok(())
     }

@@ -3,7 +3,7 @@ ghost use Rattle.std.specs.Prelude.{◌≡◌, ◌≤◌, ◌+◌, ◌*◌, ◌^
 ghost use Rattle.ctl_face.specs.Prelude.{AreWithinLimits, local_copy};
 ghost use Rattle.ctl_mail.specs.Prelude.{AreNext, HaveNext, MaySend, actor_of, copies_to_all, mail_after, view_after, view_with_copies, view_with_network_copy, HasSpace, AreOf, told_by};
 
-use crate::arrivals::{local_arrival, network_arrival, next_jitter, words_from};
+use crate::arrivals::{local_arrival, network_arrival, next_jitter, to_be_kept, words_from};
 use crate::{MailAct, MailChanges, MailStore};
 use ctl_face::Routes;
 use pcg_words::Words;
@@ -56,11 +56,11 @@ fn copy_to(
     }
 }
 
-/// Keeps one copy to each of the receivers on a network, where there is room. All but the last take one of
-/// the clones.
-pub(crate) fn copy_to_all(
+// Keeps one copy to each of the receivers on a network, where there is room. All but the last take one of the clones.
+fn copy_to_each(
     store: &MailStore,
     changes: &mut MailChanges,
+    words: &mut Option<Words>,
     me: u32,
     seed: u64,
     routes: &Routes,
@@ -80,6 +80,57 @@ pub(crate) fn copy_to_all(
     requires may { MaySend me changes.old.cycle (length members.now)
         (mail_after store.now changes.old) }
     requires space { HasSpace changes.old (4 * length members.now) (length members.now) }
+    requires words { AreNext (actor_of me seed routes.now) changes.old.counts.drawn words.old }
+    ensures after { let actor = actor_of me seed routes.now in
+        let old = view_after store.now changes.old in
+        view_after store.now changes.new ≡ view_with_copies me old
+        (copies_to_all actor network latency fields changes.old.cycle old.mail members.now) }
+    ensures changes { AreOf store.now (told_by changes.new) }
+    ensures words { AreNext (actor_of me seed routes.now) changes.new.counts.drawn words.new }
+    ensures cycle { changes.new.cycle ≡ changes.old.cycle }
+{
+    let _count = members.count();
+    let mut from = 0;
+    while let Some(clone) = clones.pop() {
+        let Some(receiver) = members.least_from(from) else {
+            return;
+        };
+        copy_to(
+            store, changes, words, me, seed, routes, network, latency, receiver, clone,
+        );
+        from = receiver + 1;
+    }
+    if let Some(receiver) = members.least_from(from) {
+        copy_to(
+            store, changes, words, me, seed, routes, network, latency, receiver, fields,
+        );
+    }
+}
+
+/// Keeps one copy to each of the receivers on a network, where there is room, and the words that come after them. All copies but the
+/// last take one of the clones.
+pub(crate) fn copy_to_all(
+    store: &MailStore,
+    changes: &mut MailChanges,
+    me: u32,
+    seed: u64,
+    routes: &Routes,
+    network: u16,
+    latency: u64,
+    members: &NetDest,
+    clones: Vec<Fields>,
+    fields: Fields,
+)
+    requires changes { AreOf store.now (told_by changes.old) }
+    requires limits { AreWithinLimits routes.now }
+    requires cycle { changes.old.cycle ≤ 10 ^ 12 }
+    requires latency { (1 ≤ latency) × latency ≤ 1000000 }
+    requires next { HaveNext members.now }
+    requires count { length clones.items + 1 ≡ length members.now }
+    requires clones { All (λ f. f ≡ fields) clones.items }
+    requires may { MaySend me changes.old.cycle (length members.now)
+        (mail_after store.now changes.old) }
+    requires space { HasSpace changes.old (4 * length members.now) (length members.now) }
     ensures after { let actor = actor_of me seed routes.now in
         let old = view_after store.now changes.old in
         view_after store.now changes.new ≡ view_with_copies me old
@@ -87,23 +138,12 @@ pub(crate) fn copy_to_all(
     ensures changes { AreOf store.now (told_by changes.new) }
     ensures cycle { changes.new.cycle ≡ changes.old.cycle }
 {
-    let _count = members.count();
-    let mut words = words_from(seed, me, routes, changes.counts.drawn);
-    let mut from = 0;
-    while let Some(clone) = clones.pop() {
-        let Some(receiver) = members.least_from(from) else {
-            return;
-        };
-        copy_to(
-            store, changes, &mut words, me, seed, routes, network, latency, receiver, clone,
-        );
-        from = receiver + 1;
-    }
-    if let Some(receiver) = members.least_from(from) {
-        copy_to(
-            store, changes, &mut words, me, seed, routes, network, latency, receiver, fields,
-        );
-    }
+    let drawn = changes.counts.drawn;
+    let mut words = words_from(&mut changes.words, seed, me, routes, drawn);
+    copy_to_each(
+        store, changes, &mut words, me, seed, routes, network, latency, members, clones, fields,
+    );
+    changes.words = to_be_kept(words, seed, me, routes, changes.counts.drawn);
 }
 
 /// Keeps one copy in a buffer of the controller's own, where there is room.

@@ -4,16 +4,21 @@
 #![tactic(auto)]
 
 mod act;
+mod act_counts;
 mod arrivals;
 mod census;
 mod changes;
 mod copies;
 mod credits;
+mod kept_words;
+mod last_arrivals;
 mod lasts;
 mod lending;
 mod lent;
+mod log;
 mod make;
 mod marks;
+mod moved;
 mod moves;
 mod numbers;
 mod queues;

@@ -3,9 +3,10 @@ ghost use Rattle.std.specs.Prelude.{◌≡◌, ◌<◌, ◌≤◌, ◌+◌, ◌^
 ghost use Rattle.std.specs.FinMap as finite;
 ghost use Rattle.ctl_face.specs.Prelude.{front, with_last, mail_with_mark, mail_with_arrival, mail_with_credit, mail_without};
 ghost use Rattle.ctl_mail.specs.declared.act.MailAct.TheVariants as act;
+ghost use Rattle.ctl_mail.specs.Log.{is_stall, is_wake};
 ghost use Rattle.ctl_mail.specs.MailOf.{IsMail, IsNewIn, buffer_count, mail_of};
 ghost use Rattle.ctl_mail.specs.Queues.{LosesNoRoom, LosesOneRoom, room_of};
-ghost use Rattle.ctl_mail.specs.Room.{HasLastRoom, HasPlaces, HasPlacesToWake, HasRoom, KeepsRoom, LosesPlaces, credit_room, is_stall, is_wake, lent_room, mark_room};
+ghost use Rattle.ctl_mail.specs.Room.{HasLastRoom, HasPlaces, HasPlacesToWake, HasRoom, KeepsRoom, LosesPlaces, credit_room, lent_room, mark_room};
 ghost use Rattle.ctl_mail.specs.Told.{CopiesFit, CountsFit, IsMakeable, LentFit, after_act, changed_mail, counted_mail, told_by};
 
 use crate::{
@@ -214,36 +215,6 @@ pub(crate) fn make(store: &mut MailStore, cycle: u64, act: MailAct)
     }
 }
 
-impl MailAct {
-    fn is_stall(&self) -> bool
-        ensures { result ≡ is_stall self.now }
-    {
-        matches!(self, MailAct::Stall(_, _))
-    }
-
-    fn is_wake(&self) -> bool
-        ensures { result ≡ is_wake self.now }
-    {
-        matches!(self, MailAct::Wake(_) | MailAct::WakeAll)
-    }
-}
-
-impl MailChanges {
-    // How many messages the acts stall, at most.
-    fn stall_count(&self) -> usize
-        ensures { result ≡ count_by is_stall (told_by self.now).log }
-    {
-        self.log.iter().filter(|act| act.is_stall()).count()
-    }
-
-    // How many of the acts wake messages.
-    fn wake_count(&self) -> usize
-        ensures { result ≡ count_by is_wake (told_by self.now).log }
-    {
-        self.log.iter().filter(|act| act.is_wake()).count()
-    }
-}
-
 // Makes room for the counts of slots in use of so many more buffers.
 fn reserve_lent(store: &mut MailStore, more: usize) -> Result<(), NoMemory>
     requires mail { IsMail store.old }
@@ -314,9 +285,12 @@ fn reserve_places(store: &mut MailStore, changes: &MailChanges) -> Result<(), No
     ensures ok { OnOk result (let log = (told_by changes.now).log in
         All (HasPlaces store.new (length log)) log) }
 {
+    if changes.log.placed_count() == 0 {
+        return Ok(());
+    }
     let more = changes.log.len();
     for i in 0..changes.log.len() {
-        reserve_place(store, &changes.log[i], more)?;
+        reserve_place(store, changes.log.at(i), more)?;
     }
     Ok(())
 }
@@ -349,8 +323,8 @@ impl MailStore {
         ensures kept { KeepsRoom self.old self.new }
     {
         self.marks.reserve(changes.log.len() + 1)?;
-        self.stalls.reserve(changes.stall_count())?;
-        if changes.wake_count() > 0 {
+        self.stalls.reserve(changes.log.stall_count())?;
+        if changes.log.wake_count() > 0 {
             self.reserve_to_wake(changes.log.len())?;
         }
         reserve_places(self, changes)
@@ -368,8 +342,10 @@ impl MailStore {
         ensures room { 0 < mark_room self.new }
         ensures acts { (told_by changes.new).acts ≡ (told_by changes.old).acts }
     {
-        while let Some(act) = changes.log.pop_front() {
+        let mut acts = changes.log.take();
+        while let Some(act) = acts.pop_front() {
             make(self, changes.cycle, act);
         }
+        changes.log.give_back(acts);
     }
 }

@@ -33,25 +33,12 @@ impl Waking {
     }
 }
 
-// The line under which a message waits after these moves, if it does, that waited so before them.
-fn waiting_after(number: MsgNo, moves: &[Move], before: Option<u64>) -> Option<u64>
-    ensures { result ≡ waiting_after number moves.now before }
-{
-    let mut waiting = before;
-    for m in moves {
-        if m.number == number {
-            waiting = m.line;
-        }
-    }
-    waiting
-}
-
 impl MailChanges {
     // The line under which a message waits now, if it does, that waited so before the scan.
     fn waiting(&self, number: MsgNo, before: Option<u64>) -> Option<u64>
         ensures { result ≡ waiting_after number (told_by self.now).moves before }
     {
-        waiting_after(number, &self.moves, before)
+        self.moves.waiting(number, before)
     }
 
     // Whether a message is no longer ready that could be before the scan.

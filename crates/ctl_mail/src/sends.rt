@@ -90,7 +90,7 @@ fn send_to_all(
         return Ok(());
     }
     changes.reserve_copies(count as usize)?;
-    let clones = clones_of(*changes.log.allocator(), &fields, count as usize - 1)?;
+    let clones = clones_of(changes.alloc, &fields, count as usize - 1)?;
     copy_to_all(
         store, changes, me, seed, routes, network, latency, members, clones, fields,
     );

@@ -1,7 +1,6 @@
 // The copies that a scan sends, kept as its changes. Where there is room for a copy, it takes no memory to keep it.
-ghost use Rattle.std.specs.Prelude.{◌≡◌, ◌<◌, ◌≤◌, ◌+◌, ◌++◌, ◌*◌, ◌^◌, ℕ, None, OnOk};
-ghost use Rattle.std.specs.List.{fold};
-ghost use Rattle.ctl_mail.specs.Sent.{HasSpace, lend_acts, copy_at, counts_after, newer_local, newer_network, told_with_act, told_with_copy};
+ghost use Rattle.std.specs.Prelude.{◌≡◌, ◌<◌, ◌≤◌, ◌+◌, ◌++◌, ◌*◌, ◌^◌, ℕ, OnOk};
+ghost use Rattle.ctl_mail.specs.Sent.{HasSpace, lend_acts, copy_at, counts_after, told_with_act, told_with_copy};
 ghost use Rattle.ctl_mail.specs.Told.{told_by};
 
 use crate::{MailAct, MailChanges};
@@ -34,48 +33,7 @@ fn counts_after(counts: SendCounts, drawn: bool) -> SendCounts
     }
 }
 
-// The newer of a last arrival and one that an act writes for the receiver on the network.
-fn newer_network(found: Option<u64>, act: &MailAct, network: u16, receiver: u32) -> Option<u64>
-    ensures { result ≡ newer_network network receiver found act.now }
-{
-    match act {
-        MailAct::NetworkLast(other, to, arrival) if *other == network && *to == receiver => {
-            Some(*arrival)
-        }
-        _ => found,
-    }
-}
-
-// The newer of a last arrival and one that an act writes for the buffer.
-fn newer_local(found: Option<u64>, act: &MailAct, buffer: u16) -> Option<u64>
-    ensures { result ≡ newer_local buffer found act.now }
-{
-    match act {
-        MailAct::LocalLast(other, arrival) if *other == buffer => Some(*arrival),
-        _ => found,
-    }
-}
-
 impl MailChanges {
-    // The last arrival at the receiver on the network that this scan has written, if it has.
-    pub(crate) fn network_last(&self, network: u16, receiver: u32) -> Option<u64>
-        ensures { result ≡ fold (newer_network network receiver) None (told_by self.now).log }
-    {
-        self.log.iter().fold(
-            None,
-            |found, act| newer_network(found, act, network, receiver),
-        )
-    }
-
-    // The last arrival in the buffer that this scan has written, if it has.
-    pub(crate) fn local_last(&self, buffer: u16) -> Option<u64>
-        ensures { result ≡ fold (newer_local buffer) None (told_by self.now).log }
-    {
-        self.log
-            .iter()
-            .fold(None, |found, act| newer_local(found, act, buffer))
-    }
-
     // Makes room for so many more copies, or answers that there is no memory for them.
     pub(crate) fn reserve_copies(&mut self, copies: usize) -> Result<(), NoMemory>
         requires { copies ≤ 4096 }
@@ -99,7 +57,7 @@ impl MailChanges {
         ensures cycle { self.new.cycle ≡ self.old.cycle }
     {
         if routes.size_of(receiver, buffer).is_some() {
-            self.log.push_back_reserved(MailAct::Lend(receiver, buffer));
+            self.log.push_reserved(MailAct::Lend(receiver, buffer));
         }
     }
 
@@ -138,7 +96,7 @@ impl MailChanges {
             buffer,
             arrival,
         });
-        self.log.push_back_reserved(MailAct::Count(drawn));
+        self.log.push_reserved(MailAct::Count(drawn));
         let message = Message {
             number,
             buffer,
@@ -147,7 +105,7 @@ impl MailChanges {
             fields,
         };
         if receiver == me {
-            self.log.push_back_reserved(MailAct::Arrive(message));
+            self.log.push_reserved(MailAct::Arrive(message));
         } else {
             self.posted.push_reserved(Delivery {
                 receiver,
@@ -166,6 +124,6 @@ impl MailChanges {
             → HasSpace self.new acts copies }
         ensures cycle { self.new.cycle ≡ self.old.cycle }
     {
-        self.log.push_back_reserved(act);
+        self.log.push_reserved(act);
     }
 }

@@ -49,25 +49,13 @@ fn leads_to(
 }
 
 impl MailAct {
-    fn is_lend(&self, receiver: u32, buffer: u16) -> bool
+    pub(crate) fn is_lend(&self, receiver: u32, buffer: u16) -> bool
         ensures { result ≡ is_lend receiver buffer self.now }
     {
         match self {
             MailAct::Lend(to, at) => *to == receiver && *at == buffer,
             _ => false,
         }
-    }
-}
-
-impl MailChanges {
-    // How many slots of a buffer at a receiver the scan has taken.
-    fn count_lends(&self, receiver: u32, buffer: u16) -> usize
-        ensures { result ≡ count_by (is_lend receiver buffer) (told_by self.now).log }
-    {
-        self.log
-            .iter()
-            .filter(|act| act.is_lend(receiver, buffer))
-            .count()
     }
 }
 
@@ -79,7 +67,7 @@ fn free_at(store: &MailStore, changes: &MailChanges, slot: (u32, u16, u64)) -> u
 {
     let arrived = credits::arrived(&store.credits, slot.0, slot.1, changes.cycle);
     let before = lent::count_at(&store.lent, slot.0, slot.1);
-    let since = changes.count_lends(slot.0, slot.1);
+    let since = changes.log.count_lends(slot.0, slot.1);
     (slot.2 + arrived as u64)
         .saturating_sub(before)
         .saturating_sub(since as u64)

@@ -3,11 +3,11 @@ ghost use Rattle.std.specs.Prelude.{◌≡◌, ◌<◌, ◌≤◌, ◌+◌, ◌+
 ghost use Rattle.ctl_mail.specs.declared.act.MailAct.TheVariants as act;
 ghost use Rattle.ctl_mail.specs.MailOf.{IsMail, buffer_count, mail_of};
 ghost use Rattle.ctl_mail.specs.MailView.{MailDoes, view_stalled};
+ghost use Rattle.ctl_mail.specs.Moves.{with_move};
 ghost use Rattle.ctl_mail.specs.Queues.{room_of};
 ghost use Rattle.ctl_mail.specs.Room.{LosesPlaces, mark_room};
 ghost use Rattle.ctl_mail.specs.Told.{AreOf, after_act, changed_view, told_by};
 
-use crate::moves::Move;
 use crate::{MailAct, MailChanges, MailStore, make, peek};
 use ctl_face::{Fault, Trouble};
 use ruby_value::{MsgNo, NoMemory};
@@ -40,18 +40,15 @@ impl MailChanges {
         ensures ok { OnOk result (let old = told_by self.old in told_by self.new ≡ record old {
           log = old.log ++ act.Stall buffer line ∷ [];
           acts = record old.acts { stalled = old.acts.stalled ++ number ∷ [] };
-          moves = old.moves ++ record { number = number; line = Some line } ∷ [];
+          moves = with_move old.moves number (Some line);
         }) }
         ensures err { OnErr result (told_by self.new ≡ told_by self.old) }
     {
         self.stalled.reserve(1)?;
         self.moves.reserve(1)?;
-        self.log.push_back(MailAct::Stall(buffer, line))?;
+        self.log.push(MailAct::Stall(buffer, line))?;
         self.stalled.push_reserved(number);
-        self.moves.push_reserved(Move {
-            number,
-            line: Some(line),
-        });
+        self.moves.put_reserved(number, Some(line));
         Ok(())
     }
 }

@@ -1,13 +1,14 @@
 // Messages that wait are woken: kept as a change.
-ghost use Rattle.std.specs.Prelude.{◌≡◌, ◌≤◌, ◌+◌, length, vec_len, vec_capacity, ◌++◌, [], ◌∷◌, None, Some, Ok, IfOk, OnOk, OnErr};
+ghost use Rattle.std.specs.Prelude.{◌≡◌, ◌≤◌, length, ◌++◌, [], ◌∷◌, None, Some, Ok, IfOk, OnOk, OnErr};
 ghost use Rattle.ctl_mail.specs.MailOf.{IsMail, mail_of};
 ghost use Rattle.ctl_mail.specs.MailView.{MailDoes, view_wake, view_wake_all, view_woken};
-ghost use Rattle.ctl_mail.specs.Moves.{act_of, is_woken, moves_back};
+ghost use Rattle.ctl_mail.specs.Moves.{act_of, is_woken, with_moves};
 ghost use Rattle.ctl_mail.specs.Numbers.{Adds, NumbersRise};
 ghost use Rattle.ctl_mail.specs.declared.moves.Waking.TheVariants as waking;
-ghost use Rattle.ctl_mail.specs.Told.{AreOf, IsWoken, IsWokenIn, IsWokenKept, IsWokenMoved, IsWokenSo, IsWokenStalled, IsWokenUnder, changed_view, told_by};
+ghost use Rattle.ctl_mail.specs.Told.{AreOf, IsWoken, IsWokenAmong, IsWokenIn, IsWokenKept, IsWokenStalled, IsWokenUnder, changed_view, told_by};
 
-use crate::moves::{Move, Waking};
+use crate::moved::Moves;
+use crate::moves::Waking;
 use crate::{MailAct, MailChanges, MailStore, numbers};
 use ctl_face::Trouble;
 use ruby_value::{MsgNo, NoMemory};
@@ -30,29 +31,26 @@ impl MailChanges {
         ensures ok { OnOk result (let old = told_by self.old in told_by self.new ≡ record old {
           log = old.log ++ act_of waking ∷ [];
           acts = record old.acts { woken = old.acts.woken ++ numbers.now };
-          moves = old.moves ++ moves_back numbers.now;
+          moves = with_moves old.moves None numbers.now;
         }) }
         ensures err { OnErr result (told_by self.new ≡ told_by self.old) }
     {
         self.moves.reserve(numbers.len())?;
         self.log.reserve(1)?;
         self.woken.extend_from_slice(numbers)?;
-        self.log.push_back_reserved(waking.act());
-        push_back_moves(&mut self.moves, numbers);
+        self.log.push_reserved(waking.act());
+        put_back_moves(&mut self.moves, numbers);
         Ok(())
     }
 }
 
-// Adds that the messages of these numbers wait no longer, where there is room for it.
-fn push_back_moves(moves: &mut Vec<Move>, numbers: &[MsgNo])
-    requires { vec_len moves.old + length numbers.now ≤ vec_capacity moves.old }
-    ensures { moves.new.items ≡ moves.old.items ++ moves_back numbers.now }
+// Keeps that the messages of these numbers wait no longer, where there is room for it.
+fn put_back_moves(moves: &mut Moves, numbers: &[MsgNo])
+    requires { length numbers.now ≤ moves.old.room }
+    ensures { moves.new.kept ≡ with_moves moves.old.kept None numbers.now }
 {
     for number in numbers {
-        moves.push_reserved(Move {
-            number: *number,
-            line: None,
-        });
+        moves.put_reserved(*number, None);
     }
 }
 
@@ -130,47 +128,31 @@ fn add_stalled(
     }
 }
 
-// Adds the number of a message that the scan has moved, if it waits so since then and is woken.
-fn add_if_moved(
-    numbers: &mut Vec<MsgNo>,
-    changes: &MailChanges,
-    waking: Waking,
-    m: Move,
-) -> Result<(), NoMemory>
-    requires { NumbersRise numbers.old.items }
-    ensures { let told = told_by changes.now in
-        OnOk result (Adds numbers.old.items (IsWokenSo told waking m) numbers.new.items) }
-{
-    if !waking.wakes(m.line) {
-        return Ok(());
-    }
-    add_if_woken(numbers, changes, waking, m.number, None)
-}
-
-// Adds the numbers of the messages that are woken of those that the scan has stalled or woken.
-fn add_moved(
+// Adds the numbers of the messages that are woken of those that the scan itself has stalled.
+fn add_stalled_now(
     numbers: &mut Vec<MsgNo>,
     changes: &MailChanges,
     waking: Waking,
 ) -> Result<(), NoMemory>
     requires { NumbersRise numbers.old.items }
     ensures { let told = told_by changes.now in
-        OnOk result (Adds numbers.old.items (IsWokenMoved told.moves told waking) numbers.new.items) }
+        OnOk result (Adds numbers.old.items (IsWokenAmong told.acts.stalled told waking) numbers.new.items) }
 {
-    for m in &changes.moves {
-        add_if_moved(numbers, changes, waking, *m)?;
+    for number in &changes.stalled {
+        add_if_woken(numbers, changes, waking, *number, None)?;
     }
     Ok(())
 }
 
 // The numbers of the messages that are woken.
 fn woken(store: &MailStore, changes: &MailChanges, waking: Waking) -> Result<Vec<MsgNo>, NoMemory>
+    requires { AreOf store.now (told_by changes.now) }
     ensures { IfOk result (λ numbers. Adds []
         (IsWokenIn store.now.stalls.kept (told_by changes.now) waking) numbers.items) }
 {
     let mut numbers = Vec::new(changes.alloc);
     add_stalled(&mut numbers, &store.stalls, changes, waking)?;
-    add_moved(&mut numbers, changes, waking)?;
+    add_stalled_now(&mut numbers, changes, waking)?;
     Ok(numbers)
 }
 

@@ -201,17 +201,17 @@ fn is_after(m: &Message, arrival: u64, number: MsgNo) -> bool
     arrival < m.arrival || (arrival == m.arrival && number.is_before(m.number))
 }
 
-// Where a message goes: behind the last one that doesn't come after it. It looks from the back, since a new message mostly is
-// the last one.
+// Where a message goes: behind the last one that doesn't come after it. It looks at the back first, since a new message mostly is the
+// last one, and else costs what the logarithm of their number does.
 fn place_of(queue: &VecDeque<Message>, m: &Message) -> usize
     requires queue { IsQueue queue.now.items }
     requires new { IsNew queue.now.items m.now.number }
     ensures bound { result ≤ deque_len queue.now }
     ensures place { insert queue.now.items result m.now ≡ with_message queue.now.items m.now }
 {
-    let mut at = queue.len();
-    while at > 0 && is_after(&queue[at - 1], m.arrival, m.number) {
-        at -= 1;
+    let at = queue.len();
+    if at == 0 || !is_after(&queue[at - 1], m.arrival, m.number) {
+        return at;
     }
-    at
+    queue.partition_point(|x| !is_after(x, m.arrival, m.number))
 }

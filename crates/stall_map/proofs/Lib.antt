@@ -1,6 +1,6 @@
 mod Edits
 mod Lanes
-mod Numbers
+pub mod Numbers
 mod Orders
 pub mod Placed
 mod Woken

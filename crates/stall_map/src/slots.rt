@@ -61,23 +61,6 @@ pub(crate) fn first_from(slots: &VecDeque<Slot>, from: usize) -> Option<&Stalled
     None
 }
 
-/// The message at a place of those that wait. It walks over the slots before it.
-pub(crate) fn held_at(slots: &VecDeque<Slot>, place: usize) -> &Stalled
-    requires { place < length (waiting_of slots.now.items) }
-    ensures { slice_get (waiting_of slots.now.items) place ≡ Some result.now }
-{
-    let mut left = place;
-    for i in 0..slots.len() {
-        if let Some(s) = &slots[i].held {
-            if left == 0 {
-                return s;
-            }
-            left -= 1;
-        }
-    }
-    unreachable!()
-}
-
 // Takes the message of this number out, if there is one. Its slot stays, empty.
 fn take_out(slots: &mut VecDeque<Slot>, number: MsgNo) -> Option<Stalled>
     requires order { IsOrder slots.old.items }

@@ -6,7 +6,7 @@ ghost use Rattle.stall_map.specs.declared.stalled.Stalled.{Stalled};
 ghost use Rattle.stall_map.specs.Stalls.{Ascends, IsNew, messages_of, messages_under, next_after, numbers_under, with_stalled, without_line};
 
 use crate::lane::{Lane, add_number, drop_lane, empty_lanes};
-use crate::slots::{Slot, count_up_to, drop_empty, find, first_from, held_at, moved_out};
+use crate::slots::{Slot, count_up_to, drop_empty, find, first_from, moved_out};
 use crate::{Message, MsgNo, NoMemory, Seq, Stalled};
 use ruby_value::LineMap;
 use std::alloc::Global;
@@ -69,14 +69,6 @@ impl StallMap {
         ensures small { result < 2 ^ 63 }
     {
         self.waiting
-    }
-
-    /// The message at a place, in the order of numbers, with its line.
-    pub fn at(&self, place: usize) -> &Stalled
-        requires { place < length self.now.kept }
-        ensures { slice_get self.now.kept place ≡ Some result.now }
-    {
-        held_at(&self.slots, place)
     }
 
     /// Whether no message has this number.

@@ -12,5 +12,5 @@ invariant-loop-i l = record {
   marks : l.store.marks ≡ l.initial.store.marks;
   stalls : l.store.stalls ≡ l.initial.store.stalls;
   places : LosesPlaces l.initial.store l.store 0;
-  made : (k : ℕ) (d : MailAct) → k < l.i → HasPlaces l.store l.more (get_or l.changes.log.items k d);
+  made : (k : ℕ) (d : MailAct) → k < l.i → HasPlaces l.store l.more (get_or l.changes.log.kept k d);
 }

@@ -17,7 +17,7 @@ returns c =
     let now = c.args.changes.now.cycle in
     let credits = c.args.store.now.credits.items in
     let lent = c.args.store.now.lent.items in
-    let free = free-after now (mail_of c.args.store.now) c.args.changes.now.log.items c.args.slot c.requires.changes.1.makeable in
+    let free = free-after now (mail_of c.args.store.now) c.args.changes.now.log.kept c.args.slot c.requires.changes.1.makeable in
     let arrived : c.arrived-arrived.result ≡ arrived_credits credits c.args.slot.0 c.args.slot.1 now =
     c.arrived-arrived.ensures ∙ ap (λ (cs : List Credit). arrived_credits cs c.args.slot.0 c.args.slot.1 now) c.deref.ensures.value in
     let before : c.count_at-before.result ≡ lent_at lent c.args.slot.0 c.args.slot.1 =
