@@ -1,0 +1,4 @@
+pub mod Delivered
+pub mod Acting
+pub mod Crossing
+pub mod ActPaths
