@@ -147,7 +147,7 @@ module _ {C M D : Type 0} (r : Rules C M D) where
           running = reached.running;
         }
 
-    by-outcome : (o : Outcome C M) → (r.scan c p.controller w.now).outcome ≡ o → Reached (acted_by r w c p o)
+    pub by-outcome : (o : Outcome C M) → (r.scan c p.controller w.now).outcome ≡ o → Reached (acted_by r w c p o)
     by-outcome (Fired note acts copies after) is =
         let held = taken-reached in
         let q : Place C = fired-place p after in

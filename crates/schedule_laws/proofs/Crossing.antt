@@ -37,10 +37,10 @@ module _ {C M D : Type 0} (r : Rules C M D) (Fits : ℕ → C → ℕ → Type 0
 
   -- An act in a world of a run. What it sends may come to each controller cs it is, and to its own cs the act leaves it.
   module _ (w : World C D) (d : ℕ) (q : Place C) (reached : Reached r w) (there : slice_get w.places d ≡ Some q) (free : is_free r w.now q ≡ true) where
-    abbrev after-by : Outcome C M → List (Place C)
+    abbrev pub after-by : Outcome C M → List (Place C)
     after-by o = slice_set w.places d (act_by r w.now d q o).place
 
-    sent-comes : (e : ℕ) (o : Outcome C M) → (r.scan d q.controller w.now).outcome ≡ o → Reached r (acted_by r w d q o)
+    pub sent-comes : (e : ℕ) (o : Outcome C M) → (r.scan d q.controller w.now).outcome ≡ o → Reached r (acted_by r w d q o)
         → (p : Place C) → slice_get (after-by o) e ≡ Some p
         → MayCome r Fits Suits e w.now p.controller (messages_for e (act_by r w.now d q o).copies)
     sent-comes e (Fired note acts copies after) is next p at =

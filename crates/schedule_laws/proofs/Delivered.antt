@@ -49,6 +49,15 @@ module _ {C M D : Type 0} (r : Rules C M D) where
       by None none = let beyond = past places c none in slice_get_past (with_deliveries r places ds) c (omega (arith, beyond, deliveries-length r places ds))
       by (Some p) there = deliveries-at r c places ds p there
 
+  -- and where such a place comes from
+  pub came-from : (places : List (Place C)) (ds : List (Delivery M)) (c : ℕ) (q : Place C) → slice_get (with_deliveries r places ds) c ≡ Some q
+      → (p : Place C) × (slice_get places c ≡ Some p) × (come-at ds c p ≡ q)
+  came-from places ds c q there = by (slice_get places c) refl (sym (delivered-at places ds c) ∙ there)
+    where
+      by : (o : Option (Place C)) → slice_get places c ≡ o → option_map (come-at ds c) o ≡ Some q → (p : Place C) × (slice_get places c ≡ Some p) × (come-at ds c p ≡ q)
+      by None at is = absurd (cc is)
+      by (Some p) at is = (p, at, same_Some (come-at ds c p) q is)
+
   -- a place is changed before copies come, or after
   pub set-through : (places : List (Place C)) (c : ℕ) (x a : Place C) (ds : List (Delivery M)) → slice_get places c ≡ Some x
       → slice_set (with_deliveries r places ds) c (come-at ds c a) ≡ with_deliveries r (slice_set places c a) ds
