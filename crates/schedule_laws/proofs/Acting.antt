@@ -1,7 +1,7 @@
 -- Acts as events of worker 0: it takes the controller, fires or ends the wake-up, and gives the controller back after it fired. So each act in
 -- a world of a run leads to a world of a run.
 use Rattle.std.proofs.Common.{◌≡◌, ◌++◌, ◌&&◌, ◌+◌, ℕ, Bool, true, false, not, Option, None, Some, List, [], ◌∷◌, is_none, length, refl, sym, ◌∙◌, ap, subst, slice_get, slice_set}
-use Rattle.std.proofs.lemmas.List.{append-nil, set-set}
+use Rattle.std.proofs.lemmas.List.{append-nil, append_assoc, set-set}
 use Rattle.ruby_value.specs.declared.message.Delivery.{Delivery}
 use Rattle.run_journal.specs.declared.entry.End.{End}
 use Rattle.run_journal.specs.declared.entry.End.TheVariants as end
@@ -16,7 +16,7 @@ use Rattle.protocol_runs.proofs.HeldGrow.{deliveries-at}
 use Rattle.protocol_runs.proofs.HeldSteps.{set-here}
 use Rattle.protocol_runs.proofs.Runs.{run-more}
 use Rattle.protocol_runs.proofs.Steps.{change-steps}
-use Rattle.schedule_laws.specs.Prelude.{act_by, act_entry, acted, acted_by, entry_by}
+use Rattle.schedule_laws.specs.Prelude.{act_by, act_entry, act_events, acted, acted_by, entry_by}
 use Rattle.schedule_laws.proofs.Delivered.{come-at, set-there, set-through}
 
 is-none : {X : Type 0} (o : Option X) → is_none o ≡ true → o ≡ None
@@ -137,33 +137,46 @@ module _ {C M D : Type 0} (r : Rules C M D) where
       running = reached.running;
     }
 
-    ended-reached : (after : C) (e : End) → Ends r c w.now p.controller after e → Reached (with_moved r w c (given_back r w.now c after e))
-    ended-reached after e ends =
-        let held = taken-reached in
-        record {
-          history = held.history ++ Done 0 c ∷ [];
-          journal = held.journal ++ entry.Ended w.now c e ∷ [];
-          is = done-run held.history w held.journal reached.running c p there after e held.is ends;
-          running = reached.running;
-        }
+    abbrev pub AfterAct : Outcome C M → Type 0
+    AfterAct o = IsRun r (reached.history ++ act_events r 0 c o) (acted_by r w c p o) (reached.journal ++ entry_by r w.now c o ∷ [])
 
-    pub by-outcome : (o : Outcome C M) → (r.scan c p.controller w.now).outcome ≡ o → Reached (acted_by r w c p o)
-    by-outcome (Fired note acts copies after) is =
+    ended-run : (after : C) (e : End) → Ends r c w.now p.controller after e
+        → IsRun r (reached.history ++ Take 0 c ∷ Done 0 c ∷ []) (with_moved r w c (given_back r w.now c after e)) (reached.journal ++ entry.Ended w.now c e ∷ [])
+    unfolding taken-reached
+    ended-run after e ends =
+        let held = taken-reached in
+        subst (λ (h : List Event). IsRun r h (with_moved r w c (given_back r w.now c after e)) (reached.journal ++ entry.Ended w.now c e ∷ []))
+        (append_assoc reached.history (Take 0 c ∷ []) (Done 0 c ∷ []))
+        (done-run held.history w held.journal reached.running c p there after e held.is ends)
+
+    outcome-run : (o : Outcome C M) → (r.scan c p.controller w.now).outcome ≡ o → AfterAct o
+    unfolding taken-reached
+    outcome-run (Fired note acts copies after) is =
         let held = taken-reached in
         let q : Place C = fired-place p after in
         let v : World C D = acted_by r w c p (Fired note acts copies after) in
+        let told : List Entry = reached.journal ++ fired_entry w.now c note acts ∷ [] in
         let fires = fire-run held.history w held.journal reached.running c p there note acts copies after held.is is in
         let here : slice_get v.places c ≡ Some (come-at r copies c q) = deliveries-at r c (slice_set w.places c q) copies q (set-here w.places c p q there) in
         let parts = free-parts w.now p free in
-        record {
-          history = (held.history ++ Fire 0 c ∷ []) ++ Release 0 c ∷ [];
-          journal = held.journal ++ fired_entry w.now c note acts ∷ [];
-          is = release-run (held.history ++ Fire 0 c ∷ []) v (held.journal ++ fired_entry w.now c note acts ∷ []) reached.running c (come-at r copies c q) here fires parts.holder;
-          running = reached.running;
-        }
-    by-outcome Full is = ended-reached (r.with_mark p.controller (w.now + 1)) end.Full (Filled is)
-    by-outcome (Stop at) is = ended-reached (r.with_stop p.controller at) (end.Stop at) (Halted at is)
-    by-outcome (Idle after) is = ended-reached after end.Idle (Idled after is)
+        let whole : ((reached.history ++ Take 0 c ∷ []) ++ Fire 0 c ∷ []) ++ Release 0 c ∷ [] ≡ reached.history ++ Take 0 c ∷ Fire 0 c ∷ Release 0 c ∷ [] =
+        append_assoc (reached.history ++ Take 0 c ∷ []) (Fire 0 c ∷ []) (Release 0 c ∷ []) ∙ append_assoc reached.history (Take 0 c ∷ []) (Fire 0 c ∷ Release 0 c ∷ []) in
+        subst (λ (h : List Event). IsRun r h v told) whole
+        (release-run (held.history ++ Fire 0 c ∷ []) v told reached.running c (come-at r copies c q) here fires parts.holder)
+    outcome-run Full is = ended-run (r.with_mark p.controller (w.now + 1)) end.Full (Filled is)
+    outcome-run (Stop at) is = ended-run (r.with_stop p.controller at) (end.Stop at) (Halted at is)
+    outcome-run (Idle after) is = ended-run after end.Idle (Idled after is)
+
+    pub by-outcome : (o : Outcome C M) → (r.scan c p.controller w.now).outcome ≡ o → Reached (acted_by r w c p o)
+    by-outcome o is = record {
+      history = reached.history ++ act_events r 0 c o;
+      journal = reached.journal ++ entry_by r w.now c o ∷ [];
+      is = outcome-run o is;
+      running = reached.running;
+    }
+
+    pub act-run : AfterAct (r.scan c p.controller w.now).outcome
+    act-run = outcome-run (r.scan c p.controller w.now).outcome refl
 
     pub act-reached : Reached (acted r w c p)
     act-reached = by-outcome (r.scan c p.controller w.now).outcome refl

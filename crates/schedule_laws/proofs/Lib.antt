@@ -5,3 +5,5 @@ pub mod ActPaths
 pub mod Swapped
 pub mod LonePaths
 pub mod OneAnswers
+pub mod Alike
+pub mod OfProtocols
