@@ -1,9 +1,9 @@
 -- The acts of a cycle, one after the other, by controllers that don't fall. One act more goes to its place among them: those of greater
 -- controllers come after it then, and the world is the same.
-use Rattle.std.proofs.Common.{◌≡◌, ◌≢◌, ◌≤◌, ◌<◌, ◌+◌, ◌⊎◌, ⊎_elim, ℕ, Bool, true, false, Option, None, Some, List, [], ◌∷◌, All, cond, ltb, refl, sym, ◌∙◌, ap, subst, slice_get, slice_set, arith}
+use Rattle.std.proofs.Common.{◌≡◌, ◌≢◌, ◌<◌, ℕ, Bool, true, false, Option, None, Some, List, [], ◌∷◌, All, cond, ltb, refl, sym, ◌∙◌, ap, subst, slice_get, slice_set, arith}
 use Rattle.std.specs.Option.{option_map}
-use Rattle.std.proofs.lemmas.Bool.{cases_eq, ltb-false, ltb-true}
-use Rattle.std.proofs.lemmas.List.Elements.{All-cons, All-head, All-nil, All-tail, All-weaker}
+use Rattle.std.proofs.lemmas.Bool.{ltb-true}
+use Rattle.std.proofs.lemmas.List.Elements.{All-cons, All-head, All-tail, All-weaker}
 use Rattle.ruby_value.proofs.Ordered.{AllPairs-head, AllPairs-tail}
 use Rattle.run_journal.specs.declared.entry.Entry.{Entry}
 use Rattle.cycle_order.specs.Prelude.{Rises, owner, put}

@@ -16,7 +16,7 @@ use Rattle.protocol_runs.proofs.HeldGrow.{deliveries-at}
 use Rattle.protocol_runs.proofs.HeldSteps.{set-here}
 use Rattle.protocol_runs.proofs.Runs.{run-more}
 use Rattle.protocol_runs.proofs.Steps.{change-steps}
-use Rattle.schedule_laws.specs.Prelude.{act_by, act_entry, act_events, acted, acted_by, entry_by}
+use Rattle.schedule_laws.specs.Prelude.{act_events, acted, acted_by, entry_by}
 use Rattle.schedule_laws.proofs.Delivered.{come-at, set-there, set-through}
 
 is-none : {X : Type 0} (o : Option X) → is_none o ≡ true → o ≡ None

@@ -1,5 +1,5 @@
 -- The laws of schedules: that acts exchange, that two ended runs answer alike, and that each is in cycle order one of worker 0 alone.
-use Rattle.std.proofs.Common.{◌≡◌, ◌+◌, ℕ, List, [], length, refl, sym, ◌∙◌, ap, subst, arith}
+use Rattle.std.proofs.Common.{◌≡◌, ℕ, List, [], length, sym, ◌∙◌, ap, subst, arith}
 use Rattle.std.specs.List.{filter, flat_map}
 use Rattle.std.specs.Prelude.{count_by}
 use Rattle.run_journal.specs.declared.entry.Entry.{Entry}
@@ -10,9 +10,9 @@ use Rattle.run_journal.specs.declared.summary.Final.{Final}
 use Rattle.ruby_value.specs.declared.message.MsgNo.{MsgNo}
 use Rattle.cycle_order.specs.Prelude.{is_turned, ordered}
 use Rattle.cycle_order.proofs.Ordered.{keeps-count, keeps-parts, keeps-turns, ordered-count}
-use Rattle.protocol_runs.specs.Prelude.{CarriesMail, HasEnded, IsAlone, IsFramed, IsRun, IsSound, Place, Rules, World, account, held_mail, is_queued, is_recycled, is_stalled}
+use Rattle.protocol_runs.specs.Prelude.{CarriesMail, HasEnded, IsAlone, IsFramed, IsRun, IsSound, Rules, World, held_mail, is_queued, is_recycled, is_stalled}
 use Rattle.protocol_runs.proofs.OneRun.{one-end, one-history}
-use Rattle.schedule_laws.specs.Prelude.{ActsAreEvents, ActsExchange, AnswerAlike, ArrivalsSwap, IsExchanged, IsOne}
+use Rattle.schedule_laws.specs.Prelude.{ActsAreEvents, ActsExchange, AnswerAlike, ArrivalsSwap, IsOne}
 use Rattle.schedule_laws.proofs.Acting.{Reached, act-run}
 use Rattle.schedule_laws.proofs.Crossing.{diamond, then-at, then-entry, then-free}
 use Rattle.schedule_laws.proofs.OneAnswers.{one-of}

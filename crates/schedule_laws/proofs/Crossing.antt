@@ -1,6 +1,6 @@
 -- Two controllers that are due in one world: the copies of the one act are nothing to the other, and the two acts lead to one world in
 -- either order.
-use Rattle.std.proofs.Common.{◌≡◌, ◌≢◌, ◌≤◌, ◌+◌, ◌++◌, ◌⊎◌, ◌&&◌, ⊎_elim, ℕ, Bool, true, not, is_none, Option, None, Some, List, [], ◌∷◌, All, length, refl, sym, ◌∙◌, ap, subst, slice_get, slice_set, arith}
+use Rattle.std.proofs.Common.{◌≡◌, ◌≢◌, ◌≤◌, ◌+◌, ◌++◌, ◌&&◌, ⊎_elim, ℕ, Bool, true, not, is_none, Option, None, Some, List, [], ◌∷◌, All, refl, sym, ◌∙◌, ap, subst, slice_get, slice_set, arith}
 use Rattle.std.proofs.lemmas.Bool.{cases_eq}
 use Rattle.std.proofs.lemmas.List.{append-nil, set_comm}
 use Rattle.std.proofs.lemmas.List.Elements.{All-head, All-nil, All-tail}
@@ -8,19 +8,15 @@ use Rattle.std.proofs.lemmas.Option.{same_Some}
 use Rattle.ruby_value.specs.declared.message.Delivery.{Delivery}
 use Rattle.ruby_value.specs.declared.message.MsgNo.{MsgNo}
 use Rattle.ruby_value.specs.Prelude.{has_mark, same_number}
-use Rattle.run_journal.specs.declared.entry.Entry.{Entry}
-use Rattle.run_journal.specs.declared.entry.FireNote.{FireNote}
-use Rattle.run_journal.specs.declared.entry.StopAt.{StopAt}
-use Rattle.protocol_runs.specs.Prelude.{Acts, AreNewFor, CarriesMail, Fired, Full, Idle, IsFramed, IsSound, MayCome, Moved, Outcome, Place, Rules, Scan, Stop, World, held_by, is_free, messages_for, must_wake, outcome_with, with_arrival, with_arrivals, with_controller, with_deliveries, with_moved}
-use Rattle.protocol_runs.proofs.Accounting.{mail}
+use Rattle.protocol_runs.specs.Prelude.{AreNewFor, CarriesMail, Fired, Full, Idle, IsFramed, IsSound, MayCome, Moved, Outcome, Place, Rules, Scan, Stop, World, held_by, is_free, messages_for, outcome_with, with_arrival, with_arrivals, with_controller, with_deliveries, with_moved}
 use Rattle.protocol_runs.proofs.Fitting.{all-fit}
 use Rattle.protocol_runs.proofs.HeldGrow.{deliveries-at, grown}
 use Rattle.protocol_runs.proofs.HeldNew.{brought, brought-more, come-more, counted-new, have-come, inbox-once, mail-is, new-counted, still-new, suits-for}
 use Rattle.protocol_runs.proofs.HeldSteps.{set-here}
 use Rattle.protocol_runs.proofs.Places.{set-at}
 use Rattle.schedule_laws.specs.Prelude.{ArrivalsSwap, act, act_by, act_entry, acted, acted_by, entry_by}
-use Rattle.schedule_laws.proofs.Delivered.{come-at, delivered-at, either-order, set-other, set-through}
-use Rattle.schedule_laws.proofs.Acting.{Reached, act-reached, fired-place, free-is, free-parts, taken, taken-reached}
+use Rattle.schedule_laws.proofs.Delivered.{come-at, either-order, set-other, set-through}
+use Rattle.schedule_laws.proofs.Acting.{Reached, act-reached, fired-place, taken, taken-reached}
 
 module _ {C M D : Type 0} (r : Rules C M D) (Fits : ℕ → C → ℕ → Type 0) (Suits : ℕ → M → ℕ → Type 0) (Leads : D → ℕ → ℕ → Type 0)
     (sound : IsSound r Fits Suits Leads) (carries : CarriesMail r Fits Suits Leads) where

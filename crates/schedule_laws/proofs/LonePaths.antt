@@ -1,6 +1,6 @@
 -- Acts by controllers that don't fall, up to a world in which nobody is due, are what one worker does: it takes the controller of each act
 -- where it doesn't hold it already, and that is the least one that is due.
-use Rattle.std.proofs.Common.{◌≡◌, ◌≢◌, ◌≤◌, ◌<◌, ◌+◌, ◌++◌, ◌⊎◌, ◌&&◌, inl, inr, ⊎_elim, ℕ, zero, suc, Bool, true, false, not, is_none, is_some, Option, None, Some, List, [], ◌∷◌, All, cond, nat_lt, length, position, get_or, refl, sym, ◌∙◌, ap, subst, slice_get, slice_set, arith}
+use Rattle.std.proofs.Common.{◌≡◌, ◌≤◌, ◌<◌, ◌+◌, ◌++◌, ◌⊎◌, inl, inr, ⊎_elim, ℕ, suc, Bool, true, false, is_some, Option, None, Some, List, [], ◌∷◌, All, nat_lt, length, position, get_or, refl, sym, ◌∙◌, ap, subst, slice_get, slice_set, arith}
 use Rattle.std.specs.List.{list_any, position_or_len}
 use Rattle.std.proofs.lemmas.Bool.{cases_eq, cases_lt, cond-true, lt-ltb}
 use Rattle.std.proofs.lemmas.List.{append-nil, append_assoc, length-append}
@@ -8,26 +8,22 @@ use Rattle.std.proofs.lemmas.List.Elements.{All-cons, All-head, All-tail, All-we
 use Rattle.std.proofs.lemmas.List.Quantifiers.{position-Some}
 use Rattle.std.proofs.lemmas.List.Sums.{fails_before_first}
 use Rattle.std.proofs.lemmas.Option.{get_or_from_slice_get, same_Some, slice_get-get_or, slice_get_within}
-use Rattle.ruby_value.specs.Prelude.{has_mark}
 use Rattle.ruby_value.proofs.Ordered.{AllPairs-head, AllPairs-tail}
-use Rattle.ruby_value.specs.declared.message.Delivery.{Delivery}
-use Rattle.run_journal.specs.declared.entry.End.{End}
 use Rattle.run_journal.specs.declared.entry.End.TheVariants as end
 use Rattle.run_journal.specs.declared.entry.Entry.{Entry}
-use Rattle.run_journal.specs.declared.entry.FireNote.{FireNote}
 use Rattle.run_journal.specs.declared.event.Event.{Event}
 use Rattle.run_journal.specs.declared.event.Event.TheVariants.{Done, Fire, Take}
 use Rattle.cycle_order.specs.Prelude.{Rises, owner}
 use Rattle.cycle_order.proofs.Ordered.{NotAfter}
-use Rattle.protocol_runs.specs.Prelude.{Acts as ActLists, CarriesMail, Ends, Filled, Fired, Full, Halted, Idle, Idled, IsAlone, IsAloneEvent, IsFramed, IsRun, IsSound, MayCome, Outcome, Place, Ran, Rules, Stop, World, is_free, is_held, messages_for, must_wake, with_controller}
+use Rattle.protocol_runs.specs.Prelude.{CarriesMail, Filled, Fired, Full, Halted, Idle, Idled, IsAlone, IsAloneEvent, IsRun, IsSound, Outcome, Place, Ran, Rules, Stop, World, is_free, is_held, messages_for}
 use Rattle.protocol_runs.proofs.Fitting.{all-fit}
-use Rattle.protocol_runs.proofs.HeldGrow.{deliveries-at, grown}
+use Rattle.protocol_runs.proofs.HeldGrow.{deliveries-at}
 use Rattle.protocol_runs.proofs.HeldSteps.{set-here}
 use Rattle.protocol_runs.proofs.Places.{set-at}
-use Rattle.schedule_laws.specs.Prelude.{ArrivalsSwap, act, act_by, act_entry, acted, acted_by, entry_by}
+use Rattle.schedule_laws.specs.Prelude.{act, act_by, act_entry, acted, acted_by, entry_by}
 use Rattle.schedule_laws.proofs.ActPaths.{Acts, First, first-owner, headed}
-use Rattle.schedule_laws.proofs.Acting.{IsFree, Reached, act-reached, by-outcome, done-run, fire-run, fired-place, free-is, free-parts, take-run, taken}
-use Rattle.schedule_laws.proofs.Crossing.{after-by, copies-come, sent-comes, still-free}
+use Rattle.schedule_laws.proofs.Acting.{Reached, act-reached, by-outcome, done-run, fire-run, fired-place, free-is, free-parts, take-run, taken}
+use Rattle.schedule_laws.proofs.Crossing.{copies-come, sent-comes, still-free}
 use Rattle.schedule_laws.proofs.Delivered.{came-from, come-at, set-other}
 
 -- no element passes a test

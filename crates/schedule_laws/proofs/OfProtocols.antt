@@ -9,7 +9,7 @@ use Rattle.protocol_runs.specs.Prelude.{FitsRun, HasEnded, HasSeats, IsAlone, Is
 use Rattle.protocol_runs.proofs.Driver.{IsDriver}
 use Rattle.protocol_runs.proofs.Framings.{runs-framed}
 use Rattle.protocol_runs.proofs.Premises.{carries_mail, sound}
-use Rattle.schedule_laws.specs.Prelude.{ActsExchange, AnswerAlike, IsEveryAnswer, IsOne}
+use Rattle.schedule_laws.specs.Prelude.{ActsExchange, IsEveryAnswer, IsOne}
 use Rattle.schedule_laws.proofs.Alike as laws
 use Rattle.schedule_laws.proofs.Swapped.{arrivals-swap}
 

@@ -1,10 +1,9 @@
 -- Along a run the acts of each cycle are put in order, one after the other; as a cycle turns, one worker has done them.
-use Rattle.std.proofs.Common.{◌≡◌, ◌≢◌, ◌≤◌, ◌+◌, ◌++◌, ◌&&◌, ◌⊎◌, ⊎_elim, ℕ, Bool, true, false, not, is_none, is_some, Option, None, Some, List, [], ◌∷◌, cond, length, map, refl, sym, ◌∙◌, ap, subst, slice_get, slice_set, arith}
+use Rattle.std.proofs.Common.{◌≡◌, ◌+◌, ◌++◌, ◌&&◌, ℕ, Bool, true, false, not, is_none, is_some, Option, None, Some, List, [], ◌∷◌, cond, length, map, refl, sym, ◌∙◌, ap, subst, slice_get, slice_set, arith}
 use Rattle.std.specs.Option.{option_map, option_to_list}
 use Rattle.std.proofs.lemmas.Bool.{or_parts}
 use Rattle.std.proofs.lemmas.List.{append-nil, append_assoc, length-append, map-set}
 use Rattle.std.proofs.lemmas.Option.{same_Some, slice_get-map}
-use Rattle.ruby_value.specs.declared.message.Delivery.{Delivery}
 use Rattle.run_journal.specs.declared.entry.End.{End}
 use Rattle.run_journal.specs.declared.entry.Entry.{Entry}
 use Rattle.run_journal.specs.declared.entry.Entry.TheVariants as entry
@@ -12,13 +11,13 @@ use Rattle.run_journal.specs.declared.event.Event.{Event}
 use Rattle.run_journal.specs.declared.event.Event.TheVariants.{Turn}
 use Rattle.cycle_order.specs.Prelude.{Rises, is_turned, ordered, ordered_on, put}
 use Rattle.cycle_order.proofs.Ordered.{put-length, put-rises, rises-none}
-use Rattle.protocol_runs.specs.Prelude.{CarriesMail, Change, Closes, EndedBy, Ends, Filled, Fired, FiredBy, Full, HasEnded, Halted, Idle, Idled, IsAlone, IsFramed, IsIdle, IsRun, IsSound, Move, Moved, Moves, Outcome, Place, Ran, Released, Rules, Stepped, Stop, Taken, Turns, World, after_driver, driver_turn_in, fired_entry, given_back, held_by_nobody, is_busy, is_due, is_free, is_held, is_turn, must_wake, opening, start, step, stopped_by, with_controller, with_deliveries, with_driver_turn, with_moved}
+use Rattle.protocol_runs.specs.Prelude.{CarriesMail, Change, Closes, EndedBy, Ends, Filled, Fired, FiredBy, Full, HasEnded, Halted, Idle, Idled, IsAlone, IsFramed, IsIdle, IsRun, IsSound, Move, Moved, Moves, Outcome, Place, Ran, Released, Rules, Stepped, Stop, Taken, Turns, World, after_driver, driver_turn_in, fired_entry, given_back, held_by_nobody, is_busy, is_due, is_free, is_held, must_wake, opening, start, step, stopped_by, with_deliveries, with_driver_turn, with_moved}
 use Rattle.protocol_runs.proofs.Fitting.{MoveKeeps, WorldFits, change-fits, move-keeps, moved-grown, opening-fits}
 use Rattle.protocol_runs.proofs.Places.{IsLater, paired-back, set-at}
-use Rattle.protocol_runs.proofs.Runs.{Goes, hold-along, run-more, with_step}
+use Rattle.protocol_runs.proofs.Runs.{hold-along, run-more, with_step}
 use Rattle.protocol_runs.proofs.Steps.{change-steps}
-use Rattle.protocol_runs.proofs.Woken.{AreCleared, IsCleared, none-at, opening-cleared, turn-clears}
-use Rattle.schedule_laws.specs.Prelude.{ArrivalsSwap, IsOne, act_by, act_entry, acted, acted_by, entry_by}
+use Rattle.protocol_runs.proofs.Woken.{AreCleared, none-at, opening-cleared, turn-clears}
+use Rattle.schedule_laws.specs.Prelude.{ArrivalsSwap, IsOne, act_entry, acted, acted_by, entry_by}
 use Rattle.schedule_laws.proofs.Acting.{Reached}
 use Rattle.schedule_laws.proofs.ActPaths.{Acts, Rests, put-act}
 use Rattle.schedule_laws.proofs.Delivered.{freed-through, same-lists, set-there}

@@ -1,11 +1,10 @@
 -- What comes to a controller of a protocol may come in either order: an inbox is by numbers, marks are a set, and credits are counted.
-use Rattle.std.proofs.Common.{◌≡◌, ◌≤◌, ◌+◌, ◌⊎◌, ⊎_elim, ℕ, Bool, true, false, List, [], ◌∷◌, refl, sym, ◌∙◌, ap, subst, arith}
+use Rattle.std.proofs.Common.{◌≡◌, ⊎_elim, ℕ, Bool, true, false, List, [], ◌∷◌, refl, sym, ◌∙◌, ap, subst, arith}
 use Rattle.std.proofs.lemmas.Bool.Decides.{nat_tests}
 use Rattle.ruby_value.specs.declared.message.Message.{Message}
 use Rattle.ruby_value.specs.declared.message.MsgNo.{MsgNo}
 use Rattle.ruby_value.specs.Prelude.{number_before, same_number, with_mark}
 use Rattle.ctl_face.specs.declared.parcel.Credit.{Credit}
-use Rattle.ctl_face.specs.declared.parcel.Parcel.{Parcel}
 use Rattle.ctl_face.specs.declared.parcel.Parcel.TheVariants as parcel
 use Rattle.ctl_face.specs.Inbox.{with_message}
 use Rattle.ctl_face.specs.Prelude.{Ctl, InboxMessage, incoming_message, with_credit}
@@ -14,7 +13,7 @@ use Rattle.ctl_face.proofs.Inboxes.{number_before_trans}
 use Rattle.acts.proofs.Later.{apart, mark_passes, same_is_not}
 use Rattle.acts.proofs.Lists.{puts_swap}
 use Rattle.sequencer.specs.Prelude.{Drive, Seat}
-use Rattle.protocol_runs.specs.Prelude.{Meaning, Setting, parcel_numbers, rules}
+use Rattle.protocol_runs.specs.Prelude.{Meaning, Setting, rules}
 use Rattle.protocol_runs.proofs.Tallies.{counted, one}
 use Rattle.schedule_laws.specs.Prelude.{AreOfOthers, ArrivalsSwap}
 

@@ -1,7 +1,7 @@
 -- What one scan does to a controller that is due and that nobody holds, as one act: it fires, and what it sent comes to the receivers, or
 -- its wake-up ends. That a worker takes the controller before, and gives it back after, is nothing to the world but while it lasts. So a
 -- cycle of a run is a list of acts, each of which is what the world makes it; who does them isn't said.
-use Rattle.std.specs.Prelude.{◌≡◌, ◌≤◌, ◌+◌, ℕ, Some, List}
+use Rattle.std.specs.Prelude.{◌≡◌, ◌≤◌, ◌+◌, ℕ, Some}
 use Rattle.ruby_value.specs.declared.message.MsgNo.{MsgNo}
 use Rattle.run_journal.specs.declared.entry.End.TheVariants as end
 use Rattle.run_journal.specs.declared.entry.Entry.{Entry}
