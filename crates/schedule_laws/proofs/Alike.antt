@@ -1,5 +1,5 @@
 -- The laws of schedules: that acts exchange, that two ended runs answer alike, and that each is in cycle order one of worker 0 alone.
-use Rattle.std.proofs.Common.{◌≡◌, ℕ, List, [], length, sym, ◌∙◌, ap, subst, arith}
+use Rattle.std.proofs.Common.{◌≡◌, ℕ, None, List, [], length, sym, ◌∙◌, ap, subst, arith}
 use Rattle.std.specs.List.{filter, flat_map}
 use Rattle.std.specs.Prelude.{count_by}
 use Rattle.run_journal.specs.declared.entry.Entry.{Entry}
@@ -10,12 +10,12 @@ use Rattle.run_journal.specs.declared.summary.Final.{Final}
 use Rattle.ruby_value.specs.declared.message.MsgNo.{MsgNo}
 use Rattle.cycle_order.specs.Prelude.{is_turned, ordered}
 use Rattle.cycle_order.proofs.Ordered.{keeps-count, keeps-parts, keeps-turns, ordered-count}
-use Rattle.protocol_runs.specs.Prelude.{CarriesMail, HasEnded, IsAlone, IsFramed, IsRun, IsSound, Rules, World, held_mail, is_queued, is_recycled, is_stalled}
+use Rattle.protocol_runs.specs.Prelude.{CarriesMail, HasEnded, IsAlone, IsFramed, IsIdle, IsRun, IsSound, Rules, World, held_mail, is_queued, is_recycled, is_stalled}
 use Rattle.protocol_runs.proofs.OneRun.{one-end, one-history}
 use Rattle.schedule_laws.specs.Prelude.{ActsAreEvents, ActsExchange, AnswerAlike, ArrivalsSwap, IsOne}
 use Rattle.schedule_laws.proofs.Acting.{Reached, act-run}
 use Rattle.schedule_laws.proofs.Crossing.{diamond, then-at, then-entry, then-free}
-use Rattle.schedule_laws.proofs.OneAnswers.{one-of}
+use Rattle.schedule_laws.proofs.OneAnswers.{one-idle, one-of}
 
 -- what follows where two journals are one in cycle order
 module _ (journal told : List Entry) (order : ordered journal ≡ ordered told) where
@@ -71,6 +71,9 @@ module _ {C M D : Type 0} (r : Rules C M D) (Fits : ℕ → C → ℕ → Type 0
 
   pub is-one : (history : List Event) (w : World C D) (journal : List Entry) → IsRun r history w journal → HasEnded w → IsOne r w journal
   is-one = one-of r Fits Suits Leads sound carries framed swap
+
+  pub is-one-idle : (history : List Event) (w : World C D) (journal : List Entry) → IsRun r history w journal → w.verdict ≡ None → IsIdle r w → IsOne r w journal
+  is-one-idle = one-idle r Fits Suits Leads sound carries framed swap
 
   pub answers-alike : FinalsFollow → (history other : List Event) (w v : World C D) (journal told : List Entry)
       → IsRun r history w journal → HasEnded w → IsRun r other v told → HasEnded v → AnswerAlike r w v journal told

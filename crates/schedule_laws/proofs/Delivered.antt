@@ -13,7 +13,7 @@ use Rattle.protocol_runs.proofs.HeldNew.{brought}
 use Rattle.protocol_runs.proofs.HeldSteps.{set-here}
 use Rattle.protocol_runs.proofs.Places.{deliveries-length, set-at}
 use Rattle.protocol_runs.proofs.Tallies.{counted, tally, tally-append}
-use Rattle.schedule_laws.specs.Prelude.{AreOfOthers, ArrivalsSwap}
+use Rattle.schedule_laws.specs.Prelude.{DifferInNumbers, ArrivalsSwap}
 
 -- lists by their elements
 pub same-lists : {X : Type 0} (xs ys : List X) → ((i : ℕ) → slice_get xs i ≡ slice_get ys i) → xs ≡ ys
@@ -92,7 +92,7 @@ module _ {C M D : Type 0} (r : Rules C M D) where
     one-past x m (n ∷ ns) few =
         let both : (number : MsgNo) → brought r (same_number number) (n ∷ ns) ≡ tally (same_number number) (r.numbers n) + brought r (same_number number) ns =
         λ number. tally-append (same_number number) (r.numbers n) (flat_map r.numbers ns) in
-        let apart : AreOfOthers r m n =
+        let apart : DifferInNumbers r m n =
         λ number. omega (arith, few number, both number, counted (same_number number) (r.numbers m), counted (same_number number) (r.numbers n)) in
         ap (λ (y : C). with_arrivals r y ns) (swap x m n apart)
         ∙ one-past (with_arrival r x n) m ns (λ number. omega (arith, few number, both number))

@@ -1,11 +1,11 @@
 -- The laws of schedules, for runs of a protocol.
-use Rattle.std.proofs.Common.{◌≡◌, ℕ, List}
+use Rattle.std.proofs.Common.{◌≡◌, ℕ, None, List}
 use Rattle.run_journal.specs.declared.entry.Entry.{Entry}
 use Rattle.run_journal.specs.declared.event.Event.{Event}
 use Rattle.ctl_face.specs.Prelude.{Ctl}
 use Rattle.cycle_order.specs.Prelude.{ordered}
 use Rattle.sequencer.specs.Prelude.{Drive, Seat}
-use Rattle.protocol_runs.specs.Prelude.{FitsRun, HasEnded, HasSeats, IsAlone, IsFramedMeaning, IsMeaning, IsRun, IsSetting, Meaning, Setting, SuitsReceiver, World, rules}
+use Rattle.protocol_runs.specs.Prelude.{FitsRun, HasEnded, HasSeats, IsAlone, IsFramedMeaning, IsIdle, IsMeaning, IsRun, IsSetting, Meaning, Setting, SuitsReceiver, World, rules}
 use Rattle.protocol_runs.proofs.Driver.{IsDriver}
 use Rattle.protocol_runs.proofs.Framings.{runs-framed}
 use Rattle.protocol_runs.proofs.Premises.{carries_mail, sound}
@@ -23,6 +23,11 @@ module _ {D : Type 0} (drive : D → List Seat → ℕ → Drive D) (needs : D �
   pub is_one : (history : List Event) (w : World Ctl D) (journal : List Entry) → IsRun (rules p drive s) history w journal → HasEnded w → IsOne (rules p drive s) w journal
   is_one =
       laws.is-one (rules p drive s) (FitsRun s) (SuitsReceiver s) (HasSeats s least) (sound p drive needs least s means driver is)
+      (carries_mail p drive needs least s means driver is) (runs-framed p drive least s is framed) (arrivals-swap p drive s)
+
+  pub is_one_idle : (history : List Event) (w : World Ctl D) (journal : List Entry) → IsRun (rules p drive s) history w journal → w.verdict ≡ None → IsIdle (rules p drive s) w → IsOne (rules p drive s) w journal
+  is_one_idle =
+      laws.is-one-idle (rules p drive s) (FitsRun s) (SuitsReceiver s) (HasSeats s least) (sound p drive needs least s means driver is)
       (carries_mail p drive needs least s means driver is) (runs-framed p drive least s is framed) (arrivals-swap p drive s)
 
   pub every_answer : laws.FinalsFollow → (history : List Event) (w : World Ctl D) (journal : List Entry) → IsRun (rules p drive s) history w journal → HasEnded w → IsEveryAnswer (rules p drive s) w journal

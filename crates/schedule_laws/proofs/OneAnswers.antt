@@ -224,15 +224,20 @@ module _ {C M D : Type 0} (r : Rules C M D) (Fits : ℕ → C → ℕ → Type 0
   cleared-free : (w : World C D) → AreCleared r w → w.verdict ≡ None → AreFree r w
   cleared-free w clear running c p there = let is = clear running c p there in not-some r p.holder is.holder
 
+  -- where nobody is held or due, one worker has done the cycle's acts
+  pub idle-lone : (x : Ran C D) (mid : Mid r x) → IsIdle r x.world → Lone r x.world (mid.journal ++ mid.cycle)
+  idle-lone x mid idle =
+      let w : World C D = x.world in
+      let way : Acts r mid.begins mid.cycle w = subst (λ (u : World C D). Acts r mid.begins mid.cycle u) (freed-same r w (idle-free r w idle)) mid.acts in
+      let first : Lone r mid.begins mid.journal = record { history = mid.history; run = mid.is; alone = mid.alone } in
+      run-on r Fits Suits Leads sound carries mid.begins mid.cycle w mid.journal way (reached-of r x mid) mid.rises mid.free (idle-none r w idle) (HoldsNobody first)
+
   turn-told : (x : Ran C D) (e : Event) (st : Stepped C D) → Mid r x → IsIdle r x.world → x.world.verdict ≡ None → IsTurnOf (length x.journal) x.world st
       → AreCleared r st.world → WorldFits r Fits Suits Leads sound st.world → IsTold (with_step x st)
   turn-told x e st mid idle running turn clear fits =
       let w : World C D = x.world in
       let n : ℕ = length (mid.journal ++ mid.cycle) in
-      let way : Acts r mid.begins mid.cycle w = subst (λ (u : World C D). Acts r mid.begins mid.cycle u) (freed-same r w (idle-free r w idle)) mid.acts in
-      let first : Lone r mid.begins mid.journal = record { history = mid.history; run = mid.is; alone = mid.alone } in
-      let lone : Lone r w (mid.journal ++ mid.cycle) =
-      run-on r Fits Suits Leads sound carries mid.begins mid.cycle w mid.journal way (reached-of r x mid) mid.rises mid.free (idle-none r w idle) (HoldsNobody first) in
+      let lone : Lone r w (mid.journal ++ mid.cycle) = idle-lone x mid idle in
       let count : length x.journal ≡ n = omega (arith, mid.count, length-append mid.journal mid.cycle) in
       let steps : step r n w (Turn 0) ≡ Some st =
       change-steps r n w (Turn 0) st running (subst (λ (k : ℕ). Change r k w (Turn 0) st) count turn.change) in
@@ -322,8 +327,23 @@ module _ {C M D : Type 0} (r : Rules C M D) (Fits : ℕ → C → ℕ → Type 0
         ended = λ over. absurd (cc over);
       }
 
+  run-told : (history : List Event) (w : World C D) (journal : List Entry) → IsRun r history w journal → IsTold (record { world = w; journal = journal })
+  run-told history w journal is = hold-along r IsTold (λ x e st goes told. goes-told x e st goes.change goes.running told) history w journal starts-told is
+
   -- each ended run is, in cycle order, one of one worker
   pub one-of : (history : List Event) (w : World C D) (journal : List Entry) → IsRun r history w journal → HasEnded w → IsOne r w journal
-  one-of history w journal is ended =
-      let told = hold-along r IsTold (λ x e st goes told. goes-told x e st goes.change goes.running told) history w journal starts-told is in
-      told.ended ended
+  one-of history w journal is ended = let told = run-told history w journal is in told.ended ended
+
+  -- and so is each one up to where a cycle may turn
+  pub one-idle : (history : List Event) (w : World C D) (journal : List Entry) → IsRun r history w journal → w.verdict ≡ None → IsIdle r w → IsOne r w journal
+  one-idle history w journal is running idle =
+      let told = run-told history w journal is in
+      let x : Ran C D = record { world = w; journal = journal } in
+      let mid : Mid r x = told.mid running in
+      let lone = idle-lone x mid idle in
+      let order : ordered journal ≡ mid.journal ++ mid.cycle = ap ordered (sym (append-nil journal)) ∙ mid.order [] in
+      record {
+        history = lone.history;
+        run = subst (λ (l : List Entry). IsRun r lone.history w l) (sym order) lone.run;
+        alone = lone.alone;
+      }

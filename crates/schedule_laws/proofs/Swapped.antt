@@ -15,7 +15,7 @@ use Rattle.acts.proofs.Lists.{puts_swap}
 use Rattle.sequencer.specs.Prelude.{Drive, Seat}
 use Rattle.protocol_runs.specs.Prelude.{Meaning, Setting, rules}
 use Rattle.protocol_runs.proofs.Tallies.{counted, one}
-use Rattle.schedule_laws.specs.Prelude.{AreOfOthers, ArrivalsSwap}
+use Rattle.schedule_laws.specs.Prelude.{DifferInNumbers, ArrivalsSwap}
 
 abbrev Before : InboxMessage → InboxMessage → Bool
 Before a b = number_before a.message.number b.message.number
@@ -57,7 +57,7 @@ module _ {D : Type 0} (p : Meaning) (drive : D → List Seat → ℕ → Drive D
   swapped x i j m n c d inbox marks credits =
       ap (λ l. with_mail x l m c) inbox ∙ ap (λ l. with_mail x j l c) marks ∙ ap (λ l. with_mail x j n l) credits
 
-  differ : (a b : Message) → AreOfOthers (rules p drive s) (parcel.Message a) (parcel.Message b) → ¬ (a.number ≡ b.number)
+  differ : (a b : Message) → DifferInNumbers (rules p drive s) (parcel.Message a) (parcel.Message b) → ¬ (a.number ≡ b.number)
   differ a b others same =
       let f : MsgNo → Bool = same_number a.number in
       let few = others a.number in

@@ -38,10 +38,10 @@ module _ {C M D : Type 0} (r : Rules C M D) where
   acted w c p = acted_by w c p (r.scan c p.controller w.now).outcome
 
   -- no number is in both, nor twice in one
-  abbrev pub AreOfOthers : M → M → Type 0
-  AreOfOthers a b = (number : MsgNo) → times number (r.numbers a) + times number (r.numbers b) ≤ 1
+  abbrev pub DifferInNumbers : M → M → Type 0
+  DifferInNumbers a b = (number : MsgNo) → times number (r.numbers a) + times number (r.numbers b) ≤ 1
 
   -- two that come to a controller may come in either order, where their numbers differ; so may those that have none
   abbrev pub ArrivalsSwap : Type 0
   ArrivalsSwap =
-      (x : C) (a b : M) → AreOfOthers a b → with_arrival r (with_arrival r x a) b ≡ with_arrival r (with_arrival r x b) a
+      (x : C) (a b : M) → DifferInNumbers a b → with_arrival r (with_arrival r x a) b ≡ with_arrival r (with_arrival r x b) a

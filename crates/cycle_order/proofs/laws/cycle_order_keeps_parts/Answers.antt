@@ -1,4 +1,4 @@
-use Rattle.cycle_order.proofs.Ordered.{keeps-count, keeps-parts, keeps-turns}
+use Rattle.cycle_order.proofs.Ordered.{cycle-rises, cycle-stays, each-cycle, keeps-count, keeps-parts, keeps-turns}
 use Rattle.cycle_order.proofs.laws.cycle_order_keeps_parts.Goals as goal
 
 pub returns : goal.returns
@@ -6,4 +6,7 @@ returns c = record {
   parts = λ journal controller. keeps-parts controller journal;
   turns = keeps-turns;
   count = keeps-count;
+  cycles = each-cycle;
+  rises = cycle-rises;
+  stays = cycle-stays;
 }

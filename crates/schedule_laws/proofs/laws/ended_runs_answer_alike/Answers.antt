@@ -19,3 +19,9 @@ returns-clause-alone g c =
     let driver = g.met.D.Driver g.world.𝓛 g.world.𝓜 g.world.𝓡 ((λ s x. x), (λ x. x), (λ x. x), λ x. x) in
     let law : IsDriver g.D.Driver.drive g.D.Driver.needs g.D.Driver.least = record { lawful = driver.lawful; lasting = λ d seats now. (driver.lasting d seats now).0 } in
     λ p s means framed is. protocols.alone_ordered g.D.Driver.drive g.D.Driver.needs g.D.Driver.least law p s means framed is
+
+pub returns-clause-idle : goal.returns-clause-idle
+returns-clause-idle g c =
+    let driver = g.met.D.Driver g.world.𝓛 g.world.𝓜 g.world.𝓡 ((λ s x. x), (λ x. x), (λ x. x), λ x. x) in
+    let law : IsDriver g.D.Driver.drive g.D.Driver.needs g.D.Driver.least = record { lawful = driver.lawful; lasting = λ d seats now. (driver.lasting d seats now).0 } in
+    λ p s means framed is. protocols.is_one_idle g.D.Driver.drive g.D.Driver.needs g.D.Driver.least law p s means framed is
