@@ -16,11 +16,11 @@ use Rattle.schedule_laws.proofs.Crossing.{copies-come, diamond, still-free, then
 
 module _ {C M D : Type 0} (r : Rules C M D) where
   -- these acts lead from one world to another
-  pub data Acts : World C D → List Entry → World C D → Type 0 where
-    Rests : (w : World C D) → Acts w [] w
+  pub data ActPath : World C D → List Entry → World C D → Type 0 where
+    Rests : (w : World C D) → ActPath w [] w
     Goes :
         (w : World C D) (c : ℕ) (p : Place C) (e : Entry) (es : List Entry) (v : World C D)
-        → slice_get w.places c ≡ Some p → is_free r w.now p ≡ true → act_entry r w.now c p ≡ e → Acts (acted r w c p) es v → Acts w (e ∷ es) v
+        → slice_get w.places c ≡ Some p → is_free r w.now p ≡ true → act_entry r w.now c p ≡ e → ActPath (acted r w c p) es v → ActPath w (e ∷ es) v
 
   -- the first of some acts
   pub record First (w : World C D) (e : Entry) (es : List Entry) (v : World C D) : Type 0 where
@@ -29,13 +29,13 @@ module _ {C M D : Type 0} (r : Rules C M D) where
     pub there : slice_get w.places c ≡ Some p
     pub free : is_free r w.now p ≡ true
     pub entry : act_entry r w.now c p ≡ e
-    pub rest : Acts (acted r w c p) es v
+    pub rest : ActPath (acted r w c p) es v
 
   abbrev pub Headed : World C D → List Entry → World C D → Type 0
   Headed w [] v = w ≡ v
   Headed w (e ∷ es) v = First w e es v
 
-  pub headed : (w : World C D) (es : List Entry) (v : World C D) → Acts w es v → Headed w es v
+  pub headed : (w : World C D) (es : List Entry) (v : World C D) → ActPath w es v → Headed w es v
   headed w es v (Rests u) = refl
   headed w es v (Goes u c p e fs x there free entry rest) = record { c = c; p = p; there = there; free = free; entry = entry; rest = rest }
 
@@ -82,7 +82,7 @@ module _ {C M D : Type 0} (r : Rules C M D) (Fits : ℕ → C → ℕ → Type 0
     there : slice_get w.places c ≡ Some place
     free : is_free r w.now place ≡ true
     entry : act_entry r w.now c place ≡ act_entry r v.now c p
-    rest : Acts r (acted r w c place) es (acted r v c p)
+    rest : ActPath r (acted r w c place) es (acted r v c p)
 
   -- it passes the first of them
   past-first : (w : World C D) (e : Entry) (es : List Entry) (v : World C D) (c : ℕ) (p : Place C) → Reached r w → (first : First r w e es v) → owner e ≢ c
@@ -109,10 +109,10 @@ module _ {C M D : Type 0} (r : Rules C M D) (Fits : ℕ → C → ℕ → Type 0
             (then-at r Fits Suits Leads sound carries framed swap w d c q was.place reached other first.there first.free was.there was.free)
             (then-free r Fits Suits Leads sound carries framed swap w d c q was.place reached other first.there first.free was.there was.free)
             (then-entry r Fits Suits Leads sound carries framed swap w d c q was.place reached other first.there first.free was.there was.free ∙ first.entry)
-            (subst (λ (u : World C D). Acts r u es (acted r v c p)) worlds front.rest);
+            (subst (λ (u : World C D). ActPath r u es (acted r v c p)) worlds front.rest);
       }
 
-  to-front : (w : World C D) (es : List Entry) (v : World C D) (c : ℕ) (p : Place C) → Acts r w es v → Reached r w → All (λ (e : Entry). owner e ≢ c) es
+  to-front : (w : World C D) (es : List Entry) (v : World C D) (c : ℕ) (p : Place C) → ActPath r w es v → Reached r w → All (λ (e : Entry). owner e ≢ c) es
       → slice_get v.places c ≡ Some p → is_free r v.now p ≡ true → Front w es v c p
   to-front w [] v c p way reached others there free =
       let same : w ≡ v = headed r w [] v way in
@@ -125,12 +125,12 @@ module _ {C M D : Type 0} (r : Rules C M D) (Fits : ℕ → C → ℕ → Type 0
       (to-front (acted r w first.c first.p) es v c p first.rest (act-reached r w first.c first.p reached first.there first.free) (All-tail P e es others) there free)
 
   -- and so it goes to its place
-  pub put-act : (w : World C D) (es : List Entry) (v : World C D) (c : ℕ) (p : Place C) → Acts r w es v → Reached r w → Rises es
-      → slice_get v.places c ≡ Some p → is_free r v.now p ≡ true → Acts r w (put (act_entry r v.now c p) es) (acted r v c p)
+  pub put-act : (w : World C D) (es : List Entry) (v : World C D) (c : ℕ) (p : Place C) → ActPath r w es v → Reached r w → Rises es
+      → slice_get v.places c ≡ Some p → is_free r v.now p ≡ true → ActPath r w (put (act_entry r v.now c p) es) (acted r v c p)
   put-act w [] v c p way reached rises there free =
       let same : w ≡ v = headed r w [] v way in
       let e : Entry = act_entry r v.now c p in
-      subst (λ (u : World C D). Acts r u (e ∷ []) (acted r v c p)) (sym same) (Goes v c p e [] (acted r v c p) there free refl (Rests (acted r v c p)))
+      subst (λ (u : World C D). ActPath r u (e ∷ []) (acted r v c p)) (sym same) (Goes v c p e [] (acted r v c p) there free refl (Rests (acted r v c p)))
   put-act w (f ∷ fs) v c p way reached rises there free =
       let first : First r w f fs v = headed r w (f ∷ fs) v way in
       by (ltb (owner (act_entry r v.now c p)) (owner f)) refl
@@ -140,8 +140,8 @@ module _ {C M D : Type 0} (r : Rules C M D) (Fits : ℕ → C → ℕ → Type 0
       own : owner (act_entry r v.now c p) ≡ c
       own = entry-owner r v.now c (r.scan c p.controller v.now).outcome
 
-      by : (b : Bool) → ltb (owner (act_entry r v.now c p)) (owner f) ≡ b → Acts r w (f ∷ put (act_entry r v.now c p) fs) (acted r v c p)
-          → Acts r w (cond b (act_entry r v.now c p ∷ f ∷ fs) (f ∷ put (act_entry r v.now c p) fs)) (acted r v c p)
+      by : (b : Bool) → ltb (owner (act_entry r v.now c p)) (owner f) ≡ b → ActPath r w (f ∷ put (act_entry r v.now c p) fs) (acted r v c p)
+          → ActPath r w (cond b (act_entry r v.now c p ∷ f ∷ fs) (f ∷ put (act_entry r v.now c p) fs)) (acted r v c p)
       by true is behind =
           let below : owner (act_entry r v.now c p) < owner f = ltb-true (owner (act_entry r v.now c p)) (owner f) is in
           let P = λ (g : Entry). owner g ≢ c in

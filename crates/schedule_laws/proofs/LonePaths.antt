@@ -21,7 +21,7 @@ use Rattle.protocol_runs.proofs.HeldGrow.{deliveries-at}
 use Rattle.protocol_runs.proofs.HeldSteps.{set-here}
 use Rattle.protocol_runs.proofs.Places.{set-at}
 use Rattle.schedule_laws.specs.Prelude.{act, act_by, act_entry, acted, acted_by, entry_by}
-use Rattle.schedule_laws.proofs.ActPaths.{Acts, First, first-owner, headed}
+use Rattle.schedule_laws.proofs.ActPaths.{ActPath, First, first-owner, headed}
 use Rattle.schedule_laws.proofs.Acting.{Reached, act-reached, by-outcome, done-run, fire-run, fired-place, free-is, free-parts, take-run, taken}
 use Rattle.schedule_laws.proofs.Crossing.{copies-come, sent-comes, still-free}
 use Rattle.schedule_laws.proofs.Delivered.{came-from, come-at, set-other}
@@ -121,7 +121,7 @@ module _ {C M D : Type 0} (r : Rules C M D) where
 module _ {C M D : Type 0} (r : Rules C M D) (Fits : ℕ → C → ℕ → Type 0) (Suits : ℕ → M → ℕ → Type 0) (Leads : D → ℕ → ℕ → Type 0)
     (sound : IsSound r Fits Suits Leads) (carries : CarriesMail r Fits Suits Leads) where
   -- who is to be taken acts later, and is none of lesser number
-  acts-from : (w : World C D) (es : List Entry) (v : World C D) (n : ℕ) → Acts r w es v → Reached r w → All (λ (e : Entry). n ≤ owner e) es → NoneFree r v
+  acts-from : (w : World C D) (es : List Entry) (v : World C D) (n : ℕ) → ActPath r w es v → Reached r w → All (λ (e : Entry). n ≤ owner e) es → NoneFree r v
       → (c : ℕ) (p : Place C) → slice_get w.places c ≡ Some p → is_free r w.now p ≡ true → n ≤ c
   acts-from w [] v n way reached all none c p there free =
       let same : w ≡ v = headed r w [] v way in
@@ -183,7 +183,7 @@ module _ {C M D : Type 0} (r : Rules C M D) (Fits : ℕ → C → ℕ → Type 0
         })
 
   -- the worker comes to hold the controller of the first act
-  module _ (w : World C D) (e : Entry) (es : List Entry) (v : World C D) (way : Acts r w (e ∷ es) v) (reached : Reached r w) (rises : Rises (e ∷ es))
+  module _ (w : World C D) (e : Entry) (es : List Entry) (v : World C D) (way : ActPath r w (e ∷ es) v) (reached : Reached r w) (rises : Rises (e ∷ es))
       (free : AreFree r w) (none : NoneFree r v) (journal : List Entry) (first : First r w e es v) where
     from-first : All (λ (f : Entry). first.c ≤ owner f) (e ∷ es)
     from-first =
@@ -212,7 +212,7 @@ module _ {C M D : Type 0} (r : Rules C M D) (Fits : ℕ → C → ℕ → Type 0
         subst (λ (s : Place C). Lone r (taken r w first.c s) journal) place (subst (λ (i : ℕ). Lone r (taken r w i p) journal) same lone)
 
   -- and so on to the last act
-  pub run-on : (w : World C D) (es : List Entry) (v : World C D) (journal : List Entry) → Acts r w es v → Reached r w → Rises es → AreFree r w → NoneFree r v
+  pub run-on : (w : World C D) (es : List Entry) (v : World C D) (journal : List Entry) → ActPath r w es v → Reached r w → Rises es → AreFree r w → NoneFree r v
       → Standing r w journal es → Lone r v (journal ++ es)
   run-on w [] v journal way reached rises free none standing = by standing
     where

@@ -19,7 +19,7 @@ use Rattle.protocol_runs.proofs.Steps.{change-steps}
 use Rattle.protocol_runs.proofs.Woken.{AreCleared, none-at, opening-cleared, turn-clears}
 use Rattle.schedule_laws.specs.Prelude.{ArrivalsSwap, IsOne, act_entry, acted, acted_by, entry_by}
 use Rattle.schedule_laws.proofs.Acting.{Reached}
-use Rattle.schedule_laws.proofs.ActPaths.{Acts, Rests, put-act}
+use Rattle.schedule_laws.proofs.ActPaths.{ActPath, Rests, put-act}
 use Rattle.schedule_laws.proofs.Delivered.{freed-through, same-lists, set-there}
 use Rattle.schedule_laws.proofs.LonePaths.{AreFree, HoldsNobody, Lone, NoneFree, alone-more, alone-none, run-on}
 
@@ -88,7 +88,7 @@ module _ {C M D : Type 0} (r : Rules C M D) where
     pub free : AreFree r begins
     pub cycle : List Entry
     pub rises : Rises cycle
-    pub acts : Acts r begins cycle (freed x.world)
+    pub acts : ActPath r begins cycle (freed x.world)
     pub order : (rest : List Entry) → ordered (x.journal ++ rest) ≡ journal ++ ordered_on cycle rest
     pub count : length x.journal ≡ length journal + length cycle
     pub due : HeldAreDue x.world
@@ -108,7 +108,7 @@ module _ {C M D : Type 0} (r : Rules C M D) where
     free = mid.free;
     cycle = mid.cycle;
     rises = mid.rises;
-    acts = subst (λ (u : World C D). Acts r mid.begins mid.cycle u) (sym same) mid.acts;
+    acts = subst (λ (u : World C D). ActPath r mid.begins mid.cycle u) (sym same) mid.acts;
     order = λ rest. ap (λ (l : List Entry). ordered (l ++ rest)) (append-nil x.journal) ∙ mid.order rest;
     count = ap (λ (l : List Entry). length l) (append-nil x.journal) ∙ mid.count;
     due = due;
@@ -156,7 +156,7 @@ module _ {C M D : Type 0} (r : Rules C M D) (Fits : ℕ → C → ℕ → Type 0
       let w : World C D = x.world in
       let pb : Place C = held_by_nobody p in
       let v : World C D = with_moved r w c m in
-      let put_in : Acts r mid.begins (put (act_entry r w.now c pb) mid.cycle) (acted r (freed r w) c pb) =
+      let put_in : ActPath r mid.begins (put (act_entry r w.now c pb) mid.cycle) (acted r (freed r w) c pb) =
       put-act r Fits Suits Leads sound carries framed swap mid.begins mid.cycle (freed r w) c pb mid.acts (reached-of r x mid) mid.rises (freed-at r w c p there) (free-then r w.now p due) in
       let so : acted r (freed r w) c pb ≡ freed r v = ap (acted_by r (freed r w) c pb) scanned ∙ sym worlds ∙ sym (freed-moved r w c m) in
       let is_entry : act_entry r w.now c pb ≡ e = ap (entry_by r w.now c) scanned ∙ entry in
@@ -170,8 +170,8 @@ module _ {C M D : Type 0} (r : Rules C M D) (Fits : ℕ → C → ℕ → Type 0
         free = mid.free;
         cycle = put e mid.cycle;
         rises = put-rises e mid.cycle mid.rises;
-        acts = subst (λ (f : Entry). Acts r mid.begins (put f mid.cycle) (freed r v)) is_entry
-            (subst (λ (u : World C D). Acts r mid.begins (put (act_entry r w.now c pb) mid.cycle) u) so put_in);
+        acts = subst (λ (f : Entry). ActPath r mid.begins (put f mid.cycle) (freed r v)) is_entry
+            (subst (λ (u : World C D). ActPath r mid.begins (put (act_entry r w.now c pb) mid.cycle) u) so put_in);
         order = λ rest.
             ap ordered (append_assoc x.journal (e ∷ []) rest) ∙ mid.order (e ∷ rest)
             ∙ ap (λ (b : Bool). mid.journal ++ cond b (mid.cycle ++ e ∷ ordered_on [] rest) (ordered_on (put e mid.cycle) rest)) quiet;
@@ -228,7 +228,7 @@ module _ {C M D : Type 0} (r : Rules C M D) (Fits : ℕ → C → ℕ → Type 0
   pub idle-lone : (x : Ran C D) (mid : Mid r x) → IsIdle r x.world → Lone r x.world (mid.journal ++ mid.cycle)
   idle-lone x mid idle =
       let w : World C D = x.world in
-      let way : Acts r mid.begins mid.cycle w = subst (λ (u : World C D). Acts r mid.begins mid.cycle u) (freed-same r w (idle-free r w idle)) mid.acts in
+      let way : ActPath r mid.begins mid.cycle w = subst (λ (u : World C D). ActPath r mid.begins mid.cycle u) (freed-same r w (idle-free r w idle)) mid.acts in
       let first : Lone r mid.begins mid.journal = record { history = mid.history; run = mid.is; alone = mid.alone } in
       run-on r Fits Suits Leads sound carries mid.begins mid.cycle w mid.journal way (reached-of r x mid) mid.rises mid.free (idle-none r w idle) (HoldsNobody first)
 
@@ -267,7 +267,7 @@ module _ {C M D : Type 0} (r : Rules C M D) (Fits : ℕ → C → ℕ → Type 0
               free = free;
               cycle = [];
               rises = rises-none;
-              acts = subst (λ (u : World C D). Acts r st.world [] u) (sym (freed-same r st.world free)) (Rests st.world);
+              acts = subst (λ (u : World C D). ActPath r st.world [] u) (sym (freed-same r st.world free)) (Rests st.world);
               order = order;
               count = omega (arith, length-append x.journal (option_to_list st.entry), length-append (mid.journal ++ mid.cycle) (option_to_list st.entry), count);
               due = cleared-due st.world clear goes;
@@ -319,7 +319,7 @@ module _ {C M D : Type 0} (r : Rules C M D) (Fits : ℕ → C → ℕ → Type 0
           free = free;
           cycle = [];
           rises = rises-none;
-          acts = subst (λ (u : World C D). Acts r (opening r) [] u) (sym (freed-same r (opening r) free)) (Rests (opening r));
+          acts = subst (λ (u : World C D). ActPath r (opening r) [] u) (sym (freed-same r (opening r) free)) (Rests (opening r));
           order = λ rest. refl;
           count = refl;
           due = cleared-due (opening r) clear refl;
