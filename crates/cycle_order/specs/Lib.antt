@@ -1,0 +1,3 @@
+pub mod Order
+pub mod Slots
+pub mod Prelude

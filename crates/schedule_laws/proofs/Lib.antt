@@ -1,0 +1,9 @@
+pub mod Delivered
+pub mod Acting
+pub mod Crossing
+pub mod ActPaths
+pub mod Swapped
+pub mod LonePaths
+pub mod OneAnswers
+pub mod Alike
+pub mod OfProtocols
