@@ -1,2 +1,4 @@
 pub mod Types
 pub mod WhatFits
+pub mod Lists
+pub mod Owners
