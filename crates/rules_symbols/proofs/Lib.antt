@@ -2,3 +2,4 @@ pub mod Types
 pub mod WhatFits
 pub mod Lists
 pub mod Owners
+pub mod TypeNames
