@@ -3,3 +3,4 @@ pub mod WhatFits
 pub mod Lists
 pub mod Owners
 pub mod TypeNames
+pub mod TypeKinds

@@ -85,15 +85,15 @@ not_spelled text b none own =
 
 -- What declarations of types make.
 
-record MadeEnumeration (trees : List Tree) (d : ScopedDeclaration) : Type 0 where
-  symbol : EnumerationSymbol
-  made : enumeration_symbol trees d ≡ symbol ∷ []
-  machine : symbol.machine ≡ owner trees d.scope
-  default : symbol.default ≡ own_default d.scope d.declaration
-  named : (text : List ℕ) → is_named text d.declaration ≡ bytes_eq symbol.name text
-  alike : (scope : Scope) (text : List ℕ) (members : List (List ℕ)) → (is_same_scope scope d.scope && bytes_eq symbol.name text) ≡ declares (enumerated scope text members) d
+pub record MadeEnumeration (trees : List Tree) (d : ScopedDeclaration) : Type 0 where
+  pub symbol : EnumerationSymbol
+  pub made : enumeration_symbol trees d ≡ symbol ∷ []
+  pub machine : symbol.machine ≡ owner trees d.scope
+  pub default : symbol.default ≡ own_default d.scope d.declaration
+  pub named : (text : List ℕ) → is_named text d.declaration ≡ bytes_eq symbol.name text
+  pub alike : (scope : Scope) (text : List ℕ) (members : List (List ℕ)) → (is_same_scope scope d.scope && bytes_eq symbol.name text) ≡ declares (enumerated scope text members) d
 
-made_enumeration : (trees : List Tree) (scope : Scope) (d : Declaration) → is_enumeration d ≡ true → MadeEnumeration trees (made_in scope d)
+pub made_enumeration : (trees : List Tree) (scope : Scope) (d : Declaration) → is_enumeration d ≡ true → MadeEnumeration trees (made_in scope d)
 made_enumeration trees scope (enumeration e) is =
     record {
       symbol = record { name = e.name.text; machine = owner trees scope; members = map (λ (s : Symbol). s.name.text) e.members; default = own_default scope (enumeration e) };
@@ -114,14 +114,14 @@ made_enumeration trees scope (states e) is =
     }
 made_enumeration trees scope _ is = absurd (cc is)
 
-record MadeStructure (trees : List Tree) (d : ScopedDeclaration) : Type 0 where
-  symbol : StructureSymbol
-  made : structure_symbol trees d ≡ symbol ∷ []
-  machine : symbol.machine ≡ owner trees d.scope
-  named : (text : List ℕ) → is_named text d.declaration ≡ bytes_eq symbol.name text
-  alike : (scope : Scope) (s : Structure) → (is_same_scope scope d.scope && bytes_eq symbol.name s.name.text) ≡ declares (structured scope s) d
+pub record MadeStructure (trees : List Tree) (d : ScopedDeclaration) : Type 0 where
+  pub symbol : StructureSymbol
+  pub made : structure_symbol trees d ≡ symbol ∷ []
+  pub machine : symbol.machine ≡ owner trees d.scope
+  pub named : (text : List ℕ) → is_named text d.declaration ≡ bytes_eq symbol.name text
+  pub alike : (scope : Scope) (s : Structure) → (is_same_scope scope d.scope && bytes_eq symbol.name s.name.text) ≡ declares (structured scope s) d
 
-made_structure : (trees : List Tree) (scope : Scope) (d : Declaration) → is_counted_structure d ≡ true → MadeStructure trees (made_in scope d)
+pub made_structure : (trees : List Tree) (scope : Scope) (d : Declaration) → is_counted_structure d ≡ true → MadeStructure trees (made_in scope d)
 made_structure trees scope (structure u) is =
     record {
       symbol = record { name = u.name.text; machine = owner trees scope; fields = field_symbols trees scope u };
@@ -153,10 +153,10 @@ or_nothing : (o : Option ℕ) → option_or o None ≡ o
 or_nothing None = refl
 or_nothing (Some n) = refl
 
-abbrev is_the_enumeration : Option ℕ → List ℕ → EnumerationSymbol → Bool
+abbrev pub is_the_enumeration : Option ℕ → List ℕ → EnumerationSymbol → Bool
 is_the_enumeration own text e = is_owner e.machine own && bytes_eq e.name text
 
-abbrev is_the_structure : Option ℕ → List ℕ → StructureSymbol → Bool
+abbrev pub is_the_structure : Option ℕ → List ℕ → StructureSymbol → Bool
 is_the_structure own text s = is_owner s.machine own && bytes_eq s.name text
 
 module _ (trees : List Tree) where
@@ -214,12 +214,12 @@ module _ (trees : List Tree) where
       by (Some n) is = enumeration_kind t n is
 
   module _ (accepted : IsAccepted trees) where
-    few_enumerations : length (enumeration_symbols trees) ≤ 65536
+    pub few_enumerations : length (enumeration_symbols trees) ≤ 65536
     few_enumerations =
         let types = few_types trees accepted.of_declarations in
         omega (arith, types.enumerations, as_many (enumeration_symbol trees) (declared_enumerations trees) (each_enumeration trees), length-append (built_in_symbols trees) (flat_map (enumeration_symbol trees) (declared_enumerations trees)))
 
-    few_structures : length (structure_symbols trees) ≤ 65536
+    pub few_structures : length (structure_symbols trees) ≤ 65536
     few_structures =
         let types = few_types trees accepted.of_declarations in
         omega (arith, types.structures, as_many (structure_symbol trees) (declared_structures trees) (each_structure trees), length-append (flat_map (structure_symbol trees) (declared_structures trees)) (request_symbol ∷ []))
