@@ -4,3 +4,6 @@ pub mod Lists
 pub mod Owners
 pub mod TypeNames
 pub mod TypeKinds
+pub mod Made
+pub mod ValueNames
+pub mod Standing
