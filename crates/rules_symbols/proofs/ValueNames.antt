@@ -164,6 +164,12 @@ module _ (trees : List Tree) (accepted : IsAccepted trees) (k : ℕ) (m : Machin
       let same = named_once trees accepted k m at text its.declaration d among at_d its.named named_d in
       ap written_as (sym same) ∙ its.written
 
+  pub declared_there : (text : List ℕ) (x : Decl) → There m.declarations x → is_named_decl text x ≡ true → (d : Declaration) × There (machine_declarations m) d × (is_named text d ≡ true)
+  declared_there text x there named =
+      let its = declaring text x named in
+      let inside : There (named_declarations x) its.declaration = subst (λ (ds : List Declaration). There ds its.declaration) (sym its.declared) (there_first its.declaration []) in
+      (its.declaration, there_right (map parameter m.parameters) (flat_map named_declarations m.declarations) its.declaration (there_flat named_declarations m.declarations x its.declaration there inside), its.named)
+
   pub one_written : (text : List ℕ) (x z : Decl) → There m.declarations x → There m.declarations z → is_named_decl text x ≡ true → is_named_decl text z ≡ true → z ≡ x
   one_written text x z first second one other =
       let its = declaring text x one in
