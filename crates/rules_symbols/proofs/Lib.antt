@@ -7,3 +7,4 @@ pub mod TypeKinds
 pub mod Made
 pub mod ValueNames
 pub mod Standing
+pub mod CallTable
