@@ -8,3 +8,4 @@ pub mod Made
 pub mod ValueNames
 pub mod Standing
 pub mod CallTable
+pub mod ValueKinds
