@@ -9,3 +9,4 @@ pub mod ValueNames
 pub mod Standing
 pub mod CallTable
 pub mod ValueKinds
+pub mod Parameters

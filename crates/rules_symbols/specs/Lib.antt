@@ -1,3 +1,4 @@
 pub mod Fitting
 pub mod CallRows
+pub mod NamedValues
 pub mod Prelude
