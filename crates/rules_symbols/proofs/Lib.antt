@@ -10,3 +10,4 @@ pub mod Standing
 pub mod CallTable
 pub mod ValueKinds
 pub mod Parameters
+pub mod PortBuffers
