@@ -11,3 +11,4 @@ pub mod CallTable
 pub mod ValueKinds
 pub mod Parameters
 pub mod PortBuffers
+pub mod Fields

@@ -1,4 +1,5 @@
 pub mod Fitting
 pub mod CallRows
 pub mod NamedValues
+pub mod FieldsOf
 pub mod Prelude

@@ -1,0 +1,211 @@
+-- The fields of structures: what a body finds by a field's name in a type is, with its kind, what the type's symbol has under it.
+use Rattle.std.proofs.Common.{◌≡◌, ◌∙◌, ◌+◌, ◌≤◌, ◌++◌, ◌&&◌, ℕ, zero, suc, Bool, true, false, cond, not, Option, None, Some, List, [], ◌∷◌, filter, find, flat_map, length, map, position, slice_get, refl, sym, ap, subst, arith, option_and_then, unwrap_or, codes}
+use Rattle.std.specs.Prelude.{is_some}
+use Rattle.std.specs.Option.{option_map, option_or}
+use Rattle.std.specs.Str.{bytes_eq}
+use Rattle.ruby_value.specs.declared.kind.Kind.{Kind}
+use Rattle.ruby_value.specs.declared.kind.Kind.TheVariants as kind
+use Rattle.ruby_symbols.specs.declared.types.FieldSymbol.{FieldSymbol}
+use Rattle.ruby_symbols.specs.declared.types.StructureSymbol.{StructureSymbol}
+use Rattle.ruby_symbols.specs.Types.{field_named}
+use Rattle.slicc_ast.specs.declared.tree.declaration.Function.TheVariants.{Plain}
+use Rattle.slicc_ast.specs.declared.tree.declaration.Member.{Member}
+use Rattle.slicc_ast.specs.declared.tree.declaration.Member.TheVariants.{Field, Method, Skipped}
+use Rattle.slicc_ast.specs.declared.tree.declaration.Pairs.{Pairs}
+use Rattle.slicc_ast.specs.declared.tree.declaration.State.{State}
+use Rattle.slicc_ast.specs.declared.tree.declaration.Structure.{Structure}
+use Rattle.slicc_ast.specs.declared.tree.declaration.Symbol.{Symbol}
+use Rattle.slicc_ast.specs.declared.tree.item.Tree.{Tree}
+use Rattle.slicc_ast.specs.declared.tree.machine.Machine.{Machine}
+use Rattle.slicc_ast.specs.declared.tree.name.Name.{Name}
+use Rattle.slicc_ast.specs.declared.tree.name.TypeName.{TypeName}
+use Rattle.slicc_ast.specs.declared.tree.span.Span.{Span}
+use Rattle.slicc_plan.specs.declared.broken.Broken.{Broken}
+use Rattle.slicc_plan.specs.declared.built_in.BuiltInType.{BuiltInType}
+use Rattle.slicc_plan.specs.declared.built_in.BuiltInType.TheVariants.{Request}
+use Rattle.slicc_plan.specs.AllRules.{IsAccepted}
+use Rattle.slicc_plan.specs.BuiltIn.{NamedType, built_in_type, nature_of, request_fields}
+use Rattle.slicc_plan.specs.Declarations.{Declaration, enumeration, machine, states, structure, member, Scope, everywhere, within, declared_in, first_named, global_declarations, is_external, is_named, machine_declarations, machine_names, machines_of, wide_scopes}
+use Rattle.slicc_plan.specs.ExpressionTypes.{built_in_field, field_declared, field_in, fields_scope, request_field}
+use Rattle.slicc_plan.specs.FieldTypes.{FieldIn, all_fields, field_of, fields_of, fields_within, may_be_field, no_field_type, refused_field, refused_for}
+use Rattle.slicc_plan.specs.InitialFields.{field_kind}
+use Rattle.slicc_plan.specs.Lawful.{HasNumberedTypes}
+use Rattle.slicc_plan.specs.Meanings.{Meaning, value, unknown, is_value, value_of_type}
+use Rattle.slicc_plan.specs.Prototypes.{told_unless, unknown_built_in, unknown_structure}
+use Rattle.slicc_plan.specs.SymbolsOf.{symbols_of}
+use Rattle.slicc_plan.specs.SymbolsOfTypes.{field_of_type, field_symbol, field_symbols, owner, request_symbol, structure_symbol, structure_symbols}
+use Rattle.slicc_plan.specs.SymbolsOfTypes as symbols
+use Rattle.slicc_plan.specs.TypeNumbers.{built_in_kind, declared_structures, kind_or_bool, made_in, plain_kind, scoped_declarations, structure_number, value_kind}
+use Rattle.slicc_plan.specs.Types.{KnownType, built_in, enumerated, structured, declared_type, external_type, global_type, nature_in, structure_type, table_named, type_in, type_of_found, type_where}
+use Rattle.slicc_plan.specs.UnknownTypes.{member_uses, use_of}
+use Rattle.slicc_plan.proofs.Messages.{none_unknown}
+use Rattle.slicc_plan.proofs.Room.{mapped_at, none_at}
+use Rattle.slicc_plan.proofs.There.{There, all_there, found_passes, get_right, in_machine, machine_there, there_first, there_flat, there_found}
+use Rattle.slicc_plan.proofs.Types.{as_many, each_structure, structure_stands}
+use Rattle.rules_symbols.specs.FieldsOf.{HasFieldsOf}
+use Rattle.rules_symbols.proofs.Lists.{every, every_there, find_position, position_cons, position_mapped, position_there, short_position}
+use Rattle.rules_symbols.proofs.Parameters.{machine_scope, none_refused, type_known}
+use Rattle.rules_symbols.proofs.ValueKinds.{global_kind_there, in_protocol, kind_there}
+
+-- The field of a name among the symbols of fields.
+
+module _ (trees : List Tree) (scope : Scope) (text : List ℕ) where
+  abbrev is_called : FieldSymbol → Bool
+  is_called f = bytes_eq f.name text
+
+  record FieldFound (ms : List Member) (f : FieldSymbol) : Type 0 where
+    number : ℕ
+    first : position is_called (flat_map (field_symbol trees scope) ms) ≡ Some number
+    at : slice_get (flat_map (field_symbol trees scope) ms) number ≡ Some f
+
+  abbrev field_made : TypeName → Name → Pairs → FieldSymbol
+  field_made kind called attributes = field_of_type trees called.text (record { scope = scope; kind = kind; attributes = attributes })
+
+  field_there : (ms : List Member) (kind : TypeName) (called : Name) (attributes : Pairs) (span : Span) → first_named text (map member ms) ≡ Some (member (Field kind called attributes span)) → FieldFound ms (field_made kind called attributes)
+  field_there [] kind called attributes span is = absurd (cc is)
+  field_there (Field kind0 called0 attributes0 span0 ∷ ms) kind called attributes span is =
+      by (bytes_eq called0.text text) refl (λ rest. field_there ms kind called attributes span rest) is
+    where
+      here : FieldSymbol
+      here = field_made kind0 called0 attributes0
+
+      by : (b : Bool) → bytes_eq called0.text text ≡ b → (first_named text (map member ms) ≡ Some (member (Field kind called attributes span)) → FieldFound ms (field_made kind called attributes))
+          → cond b (Some (member (Field kind0 called0 attributes0 span0))) (first_named text (map member ms)) ≡ Some (member (Field kind called attributes span)) → FieldFound (Field kind0 called0 attributes0 span0 ∷ ms) (field_made kind called attributes)
+      by true named in_rest same =
+          let one : Field kind0 called0 attributes0 span0 ≡ Field kind called attributes span = cc same in
+          let kinds : kind0 ≡ kind = cc one in
+          let names : called0 ≡ called = cc one in
+          let pairs : attributes0 ≡ attributes = cc one in
+          record {
+            number = 0;
+            first = position_cons is_called (field_made kind0 called0 attributes0) (flat_map (field_symbol trees scope) ms)
+                ∙ ap (λ b. cond b (Some 0) (option_map suc (position is_called (flat_map (field_symbol trees scope) ms)))) named;
+            at = ap (λ (k : TypeName). Some (field_made k called0 attributes0)) kinds ∙ ap (λ (n : Name). Some (field_made kind n attributes0)) names ∙ ap (λ (p : Pairs). Some (field_made kind called p)) pairs;
+          }
+      by false named in_rest same =
+          let rest = in_rest same in
+          record {
+            number = suc rest.number;
+            first = position_cons is_called (field_made kind0 called0 attributes0) (flat_map (field_symbol trees scope) ms)
+                ∙ ap (λ b. cond b (Some 0) (option_map suc (position is_called (flat_map (field_symbol trees scope) ms)))) named ∙ ap (option_map suc) rest.first;
+            at = rest.at;
+          }
+  field_there (Method kind0 called0 formals0 attributes0 span0 ∷ ms) kind called attributes span is =
+      by (bytes_eq called0.text text) (λ rest. field_there ms kind called attributes span rest) is
+    where
+      by : (b : Bool) → (first_named text (map member ms) ≡ Some (member (Field kind called attributes span)) → FieldFound ms (field_made kind called attributes))
+          → cond b (Some (member (Method kind0 called0 formals0 attributes0 span0))) (first_named text (map member ms)) ≡ Some (member (Field kind called attributes span)) → FieldFound (Method kind0 called0 formals0 attributes0 span0 ∷ ms) (field_made kind called attributes)
+      by true in_rest same = absurd (cc same)
+      by false in_rest same = let rest = in_rest same in record { number = rest.number; first = rest.first; at = rest.at }
+  field_there (Skipped s ∷ ms) kind called attributes span is =
+      by (bytes_eq s.name.text text) (λ rest. field_there ms kind called attributes span rest) is
+    where
+      by : (b : Bool) → (first_named text (map member ms) ≡ Some (member (Field kind called attributes span)) → FieldFound ms (field_made kind called attributes))
+          → cond b (Some (member (Skipped s))) (first_named text (map member ms)) ≡ Some (member (Field kind called attributes span)) → FieldFound (Skipped s ∷ ms) (field_made kind called attributes)
+      by true in_rest same = absurd (cc same)
+      by false in_rest same = let rest = in_rest same in record { number = rest.number; first = rest.first; at = rest.at }
+
+-- a member that is found is there
+member_there : (ms : List Member) (x : Member) → There (map member ms) (member x) → There ms x
+member_there [] x there = absurd (cc there.1)
+member_there (y ∷ ys) x (zero, at) = let same : y ≡ x = cc at in (0, ap (λ (m : Member). Some m) same)
+member_there (y ∷ ys) x (suc j, at) = let rest = member_there ys x (j, at) in (suc rest.0, rest.1)
+
+-- Structures that names stand for.
+
+-- a structure in its scope, whose members are looked at
+record IsStructureIn (trees : List Tree) (scope : Scope) (s : Structure) : Type 0 where
+  among : There (wide_scopes trees) scope
+  there : There (declared_in trees scope) (structure s)
+  declared : There (scoped_declarations trees) (made_in scope (structure s))
+  is_own : is_external s ≡ false
+
+module _ (trees : List Tree) (accepted : IsAccepted trees) where
+  abbrev IsIn : Machine → KnownType → Type 0
+  IsIn m (structured scope s) = IsStructureIn trees scope s × (fields_scope m scope ≡ scope)
+  IsIn m t = Unit {0}
+
+  type_is_in : (m : Machine) (scope : Scope) → fields_scope m scope ≡ scope → There (wide_scopes trees) scope → (d : Declaration) → There (declared_in trees scope) d → There (scoped_declarations trees) (made_in scope d)
+      → (t : KnownType) → declared_type scope d ≡ Some t → IsIn m t
+  type_is_in m scope own among (structure s) there declared t is =
+      known (is_external s) refl is (none_at (unknown_built_in (machine_names trees)) (declared_in trees scope) there.0 (structure s) (none_unknown trees accepted among.0 scope among.1) there.1)
+    where
+      external : (o : Option BuiltInType) → told_unless (is_some o) s.span ≡ [] → Some (external_type scope s o) ≡ Some t → IsIn m t
+      external None none same = absurd (cc none)
+      external (Some b) none same = let one : built_in b ≡ t = cc same in subst (λ (u : KnownType). IsIn m u) one tt
+
+      known : (b : Bool) → is_external s ≡ b → Some (structure_type scope s b) ≡ Some t → unknown_structure (machine_names trees) s b ≡ [] → IsIn m t
+      known true is_so same none = external (table_named s.name.text) none same
+      known false is_so same none =
+          let one : structured scope s ≡ t = cc same in
+          subst (λ (u : KnownType). IsIn m u) one (record { among = among; there = there; declared = declared; is_own = is_so }, own)
+  type_is_in m scope own among (enumeration e) there declared t is =
+      let one : enumerated scope e.name.text (map (λ (x : Symbol). x.name.text) e.members) ≡ t = cc is in subst (λ (u : KnownType). IsIn m u) one tt
+  type_is_in m scope own among (states e) there declared t is =
+      let one : enumerated scope e.name.text (map (λ (x : State). x.name.text) e.members) ≡ t = cc is in subst (λ (u : KnownType). IsIn m u) one tt
+  type_is_in m scope own among _ there declared t is = absurd (cc is)
+
+  module _ (k : ℕ) (m : Machine) (at : slice_get (machines_of trees) k ≡ Some m) where
+    global_is_in : (text : List ℕ) (t : KnownType) → global_type trees text ≡ Some t → IsIn m t
+    global_is_in text t is = by (built_in_type text) is
+      where
+        first : (o : Option Declaration) → find (is_named text) (global_declarations trees) ≡ o → type_of_found everywhere o ≡ Some t → IsIn m t
+        first None found same = absurd (cc same)
+        first (Some d) found same =
+            let place = there_found (is_named text) (global_declarations trees) d found in
+            type_is_in m everywhere refl (0, refl) d place (in_protocol trees d place) t same
+
+        by : (o : Option BuiltInType) → option_or (option_map built_in o) (type_of_found everywhere (first_named text (global_declarations trees))) ≡ Some t → IsIn m t
+        by None same = first (first_named text (global_declarations trees)) refl same
+        by (Some b) same = let one : built_in b ≡ t = cc same in subst (λ (u : KnownType). IsIn m u) one tt
+
+    named_is_in : (text : List ℕ) (t : KnownType) → type_in trees (within m) text ≡ Some t → IsIn m t
+    named_is_in text t is = by (first_named text (machine_declarations m)) refl is
+      where
+        by : (o : Option Declaration) → find (is_named text) (machine_declarations m) ≡ o → type_where trees (within m) text o ≡ Some t → IsIn m t
+        by None found same = global_is_in text t same
+        by (Some d) found same =
+            let place = there_found (is_named text) (machine_declarations m) d found in
+            type_is_in m (within m) refl (machine_scope trees accepted k m at) d place (in_machine trees m d (machine_there (global_declarations trees) m (k, at)) place) t same
+
+    -- The types of fields.
+
+    record FieldTyped (scope : Scope) (kind : TypeName) : Type 0 where
+      type : KnownType
+      found : type_in trees scope kind.text ≡ Some type
+      valued : is_value m type ≡ true
+      its_kind : Kind
+      has_kind : value_kind trees m type ≡ Some its_kind
+      is_plain : plain_kind trees type ≡ Some its_kind
+
+    field_typed : (scope : Scope) (s : Structure) → IsStructureIn trees scope s → fields_scope m scope ≡ scope → (kind : TypeName) (called : Name) (attributes : Pairs) (span : Span) → There s.members (Field kind called attributes span) → FieldTyped scope kind
+    field_typed scope s inside own kind called attributes span there =
+        let used = type_known trees accepted scope inside.among (structure s) inside.there (use_of kind)
+        (subst (λ b. There (cond b [] (flat_map member_uses s.members)) (use_of kind)) (sym inside.is_own)
+        (there_flat member_uses s.members (Field kind called attributes span) (use_of kind) there (0, refl))) refl in
+        let f : FieldIn = record { scope = scope; kind = kind; attributes = attributes } in
+        let in_structure : There (fields_of scope (structure s)) f = subst (λ b. There (cond b [] (flat_map (field_of scope) s.members)) f) (sym inside.is_own)
+        (there_flat (field_of scope) s.members (Field kind called attributes span) f there (0, refl)) in
+        let among : There (all_fields trees) f = there_flat (fields_within trees) (wide_scopes trees) scope f inside.among (there_flat (fields_of scope) (declared_in trees scope) (structure s) f inside.there in_structure) in
+        let none = none_at (refused_field trees) (all_fields trees) among.0 f (none_refused trees accepted) among.1 in
+        let may : may_be_field (nature_in used.0) ≡ true = allowed (may_be_field (nature_in used.0)) (sym (ap (refused_for kind.span) used.1) ∙ none) in
+        typed used.0 used.1 may
+      where
+        allowed : (b : Bool) → cond b [] (no_field_type kind.span ∷ []) ≡ [] → b ≡ true
+        allowed true e = refl
+        allowed false e = absurd (cc e)
+
+        valued_kind : (x : Scope) → fields_scope m x ≡ x → (t : KnownType) → type_in trees x kind.text ≡ Some t → is_value m t ≡ true → (kk : Kind) × (value_kind trees m t ≡ Some kk)
+        valued_kind everywhere same t is valued = global_kind_there trees k m at kind.text t is valued
+        valued_kind (within n) same t is valued =
+            let one : within n ≡ within m = sym same in
+            kind_there trees k m at kind.text t (ap (λ (y : Scope). type_in trees y kind.text) (sym one) ∙ is) valued
+
+        typed : (t : KnownType) → type_in trees scope kind.text ≡ Some t → may_be_field (nature_in t) ≡ true → FieldTyped scope kind
+        typed (built_in b) is may =
+            let has = valued_kind scope own (built_in b) is may in
+            record { type = built_in b; found = is; valued = may; its_kind = has.0; has_kind = has.1; is_plain = has.1 }
+        typed (enumerated x text members) is may =
+            let has = valued_kind scope own (enumerated x text members) is refl in
+            record { type = enumerated x text members; found = is; valued = refl; its_kind = has.0; has_kind = has.1; is_plain = has.1 }
+        typed (structured x u) is may = absurd (cc may)
