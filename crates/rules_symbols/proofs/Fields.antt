@@ -43,7 +43,8 @@ use Rattle.slicc_plan.proofs.Room.{mapped_at, none_at}
 use Rattle.slicc_plan.proofs.There.{There, all_there, found_passes, get_right, in_machine, machine_there, there_first, there_flat, there_found}
 use Rattle.slicc_plan.proofs.Types.{as_many, each_structure, structure_stands}
 use Rattle.rules_symbols.specs.FieldsOf.{HasFieldsOf}
-use Rattle.rules_symbols.proofs.Lists.{every, every_there, find_position, position_cons, position_mapped, position_there, short_position}
+use Rattle.rules_symbols.specs.Fitting.{IsOfKind}
+use Rattle.rules_symbols.proofs.Lists.{every, every_there, find_position, position_cons, position_mapped, position_some, short_position}
 use Rattle.rules_symbols.proofs.Parameters.{machine_scope, none_refused, type_known}
 use Rattle.rules_symbols.proofs.ValueKinds.{global_kind_there, in_protocol, kind_there}
 
@@ -209,3 +210,101 @@ module _ (trees : List Tree) (accepted : IsAccepted trees) where
             let has = valued_kind scope own (enumerated x text members) is refl in
             record { type = enumerated x text members; found = is; valued = refl; its_kind = has.0; has_kind = has.1; is_plain = has.1 }
         typed (structured x u) is may = absurd (cc may)
+
+    -- Under the number of a structure stands a symbol with its fields.
+
+    fields_of_structure : HasNumberedTypes (symbols_of trees) → (scope : Scope) (s : Structure) → IsStructureIn trees scope s → fields_scope m scope ≡ scope → (n : ℕ) → structure_number trees (structured scope s) ≡ Some n
+        → (symbol : StructureSymbol) × (slice_get (symbols_of trees).structures n ≡ Some symbol) × HasFieldsOf trees m (structured scope s) symbol
+    unfolding symbols_of
+    fields_of_structure few scope s inside own n number = (symbol, stands, each)
+      where
+        symbol : StructureSymbol
+        symbol = record { name = s.name.text; machine = owner trees scope; fields = field_symbols trees scope s }
+
+        stands : slice_get (structure_symbols trees) n ≡ Some symbol
+        stands = sym (ap (option_and_then (slice_get (structure_symbols trees))) number) ∙ structure_stands trees accepted scope s inside.declared inside.is_own
+
+        short : length (field_symbols trees scope s) ≤ 64
+        short = all_there (λ (t : StructureSymbol). length t.fields ≤ 64) (structure_symbols trees) symbol few.fields (n, stands)
+
+        of_field : (text : List ℕ) (meaning : Meaning) (kind : TypeName) (called : Name) (attributes : Pairs) (span : Span) → first_named text (map member s.members) ≡ Some (member (Field kind called attributes span))
+            → Some (value_of_type m (type_in trees (fields_scope m scope) kind.text)) ≡ Some meaning
+            → (j : ℕ) × (f : FieldSymbol) × (field_named (field_symbols trees scope s) text ≡ Some j) × (slice_get (field_symbols trees scope s) j ≡ Some f) × IsOfKind trees m f.kind meaning
+        of_field text meaning kind called attributes span found is =
+            let in_list = member_there s.members (Field kind called attributes span) (there_found (is_named text) (map member s.members) (member (Field kind called attributes span)) found) in
+            let typed = field_typed scope s inside own kind called attributes span in_list in
+            let means : meaning ≡ value typed.type =
+            value_of (sym is ∙ ap (λ (x : Scope). Some (value_of_type m (type_in trees x kind.text))) own ∙ ap (λ (o : Option KnownType). Some (value_of_type m o)) typed.found ∙ ap (λ b. Some (cond b (value typed.type) unknown)) typed.valued) in
+            let place = field_there trees scope text s.members kind called attributes span found in
+            let few_so : length (field_symbols trees scope s) ≤ 65536 = omega (arith, short) in
+            let its : plain_of (type_in trees scope kind.text) ≡ typed.its_kind = ap plain_of typed.found ∙ ap kind_or_bool typed.is_plain in
+            (place.number, field_made trees scope text kind called attributes,
+            short_position (λ (f : FieldSymbol). bytes_eq f.name text) (field_symbols trees scope s) few_so ∙ place.first, place.at,
+            subst (λ (x : Meaning). IsOfKind trees m (plain_of (type_in trees scope kind.text)) x) (sym means) (typed.has_kind ∙ ap Some (sym its)))
+          where
+            value_of : {x y : Meaning} → Some x ≡ Some y → x ≡ y
+            value_of e = cc e
+
+            plain_of : Option KnownType → Kind
+            plain_of o = kind_or_bool (option_and_then (plain_kind trees) o)
+
+        each : HasFieldsOf trees m (structured scope s) symbol
+        each text meaning is = by (first_named text (map member s.members)) refl is
+          where
+            by : (o : Option Declaration) → first_named text (map member s.members) ≡ o → field_declared trees m (fields_scope m scope) o ≡ Some meaning
+                → (j : ℕ) × (f : FieldSymbol) × (field_named (field_symbols trees scope s) text ≡ Some j) × (slice_get (field_symbols trees scope s) j ≡ Some f) × IsOfKind trees m f.kind meaning
+            by (Some (member (Field kind called attributes span))) found same = of_field text meaning kind called attributes span found same
+            by _ found same = absurd (cc same)
+
+    fields_of_request : (n : ℕ) → structure_number trees (built_in Request) ≡ Some n → (symbol : StructureSymbol) × (slice_get (symbols_of trees).structures n ≡ Some symbol) × HasFieldsOf trees m (built_in Request) symbol
+    unfolding symbols_of
+    fields_of_request n number =
+        let front = flat_map (structure_symbol trees) (declared_structures trees) in
+        let last : length (declared_structures trees) ≡ n = cc number in
+        let place : n ≡ length front + 0 = omega (arith, last, as_many (structure_symbol trees) (declared_structures trees) (each_structure trees)) in
+        (request_symbol, get_right front (request_symbol ∷ []) n 0 place, each)
+      where
+        some_kind : (o : Option Kind) → is_some o ≡ true → o ≡ Some (kind_or_bool o)
+        some_kind None is = absurd (cc is)
+        some_kind (Some kk) is = refl
+
+        each : HasFieldsOf trees m (built_in Request) request_symbol
+        each text meaning is = by (find (λ (f : NamedType). bytes_eq f.name text) request_fields) refl is
+          where
+            called : NamedType → Bool
+            called f = bytes_eq f.name text
+
+            by : (o : Option NamedType) → find (λ (f : NamedType). bytes_eq f.name text) request_fields ≡ o → option_map (λ (f : NamedType). value (built_in f.meaning)) o ≡ Some meaning
+                → (j : ℕ) × (f : FieldSymbol) × (field_named request_symbol.fields text ≡ Some j) × (slice_get request_symbol.fields j ≡ Some f) × IsOfKind trees m f.kind meaning
+            by None found same = absurd (cc same)
+            by (Some f) found same =
+                let test : NamedType → Bool = λ (g : NamedType). bytes_eq g.name text in
+                let means : value (built_in f.meaning) ≡ meaning = cc same in
+                let there = there_found test request_fields f found in
+                let place = position_some test request_fields f there (found_passes test request_fields f found) in
+                let at_place : slice_get request_fields place.0 ≡ Some f = sym (find_position test request_fields place.0 place.1) ∙ found in
+                let kinded = every_there (λ (g : NamedType). is_some (built_in_kind g.meaning)) request_fields f refl there in
+                let few_so : length (map symbols.request_field request_fields) ≤ 65536 = omega arith in
+                (place.0, symbols.request_field f,
+                short_position (λ (g : FieldSymbol). bytes_eq g.name text) (map symbols.request_field request_fields) few_so
+                ∙ position_mapped (λ (g : FieldSymbol). bytes_eq g.name text) symbols.request_field request_fields ∙ place.1,
+                mapped_at symbols.request_field request_fields place.0 f at_place,
+                subst (λ (x : Meaning). IsOfKind trees m (kind_or_bool (built_in_kind f.meaning)) x) means (some_kind (built_in_kind f.meaning) kinded))
+
+    of_type : HasNumberedTypes (symbols_of trees) → (t : KnownType) → IsIn m t → (n : ℕ) → structure_number trees t ≡ Some n → (symbol : StructureSymbol) × (slice_get (symbols_of trees).structures n ≡ Some symbol) × HasFieldsOf trees m t symbol
+    of_type few (structured scope s) inside n number = fields_of_structure few scope s inside.0 inside.1 n number
+    of_type few (built_in Request) inside n number = fields_of_request n number
+    of_type few (built_in _) inside n number = absurd (cc number)
+    of_type few (enumerated scope text members) inside n number = absurd (cc number)
+
+    -- what a name stands for in the machine has its fields under its number
+    pub fields_stand : HasNumberedTypes (symbols_of trees) → (text : List ℕ) (t : KnownType) → type_in trees (within m) text ≡ Some t → (n : ℕ) → structure_number trees t ≡ Some n
+        → (symbol : StructureSymbol) × (slice_get (symbols_of trees).structures n ≡ Some symbol) × HasFieldsOf trees m t symbol
+    fields_stand few text t is n number = of_type few t (named_is_in text t is) n number
+
+    -- and so has a machine's own structure
+    pub own_fields_stand : HasNumberedTypes (symbols_of trees) → (s : Structure) → There (machine_declarations m) (structure s) → is_external s ≡ false → (n : ℕ) → structure_number trees (structured (within m) s) ≡ Some n
+        → (symbol : StructureSymbol) × (slice_get (symbols_of trees).structures n ≡ Some symbol) × HasFieldsOf trees m (structured (within m) s) symbol
+    own_fields_stand few s there own n number =
+        fields_of_structure few (within m) s
+        (record { among = machine_scope trees accepted k m at; there = there; declared = in_machine trees m (structure s) (machine_there (global_declarations trees) m (k, at)) there; is_own = own }) refl n number
