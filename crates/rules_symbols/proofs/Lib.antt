@@ -12,3 +12,4 @@ pub mod ValueKinds
 pub mod Parameters
 pub mod PortBuffers
 pub mod Fields
+pub mod Members

@@ -151,31 +151,31 @@ module _ (trees : List Tree) (accepted : IsAccepted trees) where
       ∙ ap (option_map (λ (x : EnumerationSymbol). kind.Enum n x.default)) there ∙ ap (λ d. Some (kind.Enum n d)) default)
 
   -- the four enumerations that are built in come first
-  first_found : (text : List ℕ) (n : ℕ) → position (is_the_enumeration None text) (enumeration_symbols trees) ≡ Some n → enumeration_of (symbols_of trees) None text ≡ Some n
+  pub first_found : (text : List ℕ) (n : ℕ) → position (is_the_enumeration None text) (enumeration_symbols trees) ≡ Some n → enumeration_of (symbols_of trees) None text ≡ Some n
   unfolding symbols_of
   first_found text n is = short_position (is_the_enumeration None text) (enumeration_symbols trees) (few_enumerations trees accepted) ∙ is
 
-  first_place : (text : List ℕ) (x : EnumerationSymbol) (xs : List EnumerationSymbol) → is_the_enumeration None text x ≡ true → position (is_the_enumeration None text) (x ∷ xs) ≡ Some 0
+  pub first_place : (text : List ℕ) (x : EnumerationSymbol) (xs : List EnumerationSymbol) → is_the_enumeration None text x ≡ true → position (is_the_enumeration None text) (x ∷ xs) ≡ Some 0
   first_place text x xs is =
       position_cons (is_the_enumeration None text) x xs ∙ ap (λ b. cond b (Some 0) (option_map suc (position (is_the_enumeration None text) xs))) is
 
-  later_place : (text : List ℕ) (x : EnumerationSymbol) (xs : List EnumerationSymbol) (n : ℕ) → is_the_enumeration None text x ≡ false → position (is_the_enumeration None text) xs ≡ Some n → position (is_the_enumeration None text) (x ∷ xs) ≡ Some (suc n)
+  pub later_place : (text : List ℕ) (x : EnumerationSymbol) (xs : List EnumerationSymbol) (n : ℕ) → is_the_enumeration None text x ≡ false → position (is_the_enumeration None text) xs ≡ Some n → position (is_the_enumeration None text) (x ∷ xs) ≡ Some (suc n)
   later_place text x xs n is rest =
       position_cons (is_the_enumeration None text) x xs ∙ ap (λ b. cond b (Some 0) (option_map suc (position (is_the_enumeration None text) xs))) is ∙ ap (option_map suc) rest
 
-  abbrev types : EnumerationSymbol
+  abbrev pub types : EnumerationSymbol
   types = built_in_enumeration trees (codes "MachineType") MachineType
 
-  abbrev permissions : EnumerationSymbol
+  abbrev pub permissions : EnumerationSymbol
   permissions = built_in_enumeration trees (codes "AccessPermission") AccessPermission
 
-  abbrev requests : EnumerationSymbol
+  abbrev pub requests : EnumerationSymbol
   requests = built_in_enumeration trees (codes "RubyRequestType") RequestType
 
-  abbrev sizes : EnumerationSymbol
+  abbrev pub sizes : EnumerationSymbol
   sizes = built_in_enumeration trees (codes "MessageSizeType") MessageSize
 
-  abbrev others : List EnumerationSymbol
+  abbrev pub others : List EnumerationSymbol
   others = flat_map (enumeration_symbol trees) (declared_enumerations trees)
 
   of_built_in : (own : MachineSymbols) (b : BuiltInType) (k : Kind) → built_in_kind b ≡ Some k → option_or (simple_kind (spelled b)) (kind_of_own (symbols_of trees) own None (spelled b)) ≡ Some k
@@ -316,14 +316,14 @@ module _ (trees : List Tree) (accepted : IsAccepted trees) where
             sym (owned trees accepted k m at x.scope) ∙ ap (λ o. is_owner o (Some k)) (sym made.machine) ∙ ap (λ (s : StructureSymbol). is_owner s.machine (Some k)) same ∙ parts.0 in
             (x.declaration, own_declared trees accepted k m at x inside.0 scope, made.named text ∙ ap (λ (s : StructureSymbol). bytes_eq s.name text) same ∙ parts.1, inside.1)
 
-    no_enumeration : (text : List ℕ) → ((d : Declaration) → There (machine_declarations m) d → is_named text d ≡ true → is_enumeration d ≡ true → ⊥) → enumeration_of (symbols_of trees) (Some k) text ≡ None
+    pub no_enumeration : (text : List ℕ) → ((d : Declaration) → There (machine_declarations m) d → is_named text d ≡ true → is_enumeration d ≡ true → ⊥) → enumeration_of (symbols_of trees) (Some k) text ≡ None
     no_enumeration text never = by (enumeration_of (symbols_of trees) (Some k) text) refl
       where
         by : (o : Option ℕ) → enumeration_of (symbols_of trees) (Some k) text ≡ o → o ≡ None
         by None is = refl
         by (Some n) is = let d = own_enumeration_there text n is in absurd (never d.0 d.1 d.2 d.3)
 
-    no_structure : (text : List ℕ) → ((d : Declaration) → There (machine_declarations m) d → is_named text d ≡ true → is_counted_structure d ≡ true → ⊥) → structure_of (symbols_of trees) (Some k) text ≡ None
+    pub no_structure : (text : List ℕ) → ((d : Declaration) → There (machine_declarations m) d → is_named text d ≡ true → is_counted_structure d ≡ true → ⊥) → structure_of (symbols_of trees) (Some k) text ≡ None
     no_structure text never = by (structure_of (symbols_of trees) (Some k) text) refl
       where
         by : (o : Option ℕ) → structure_of (symbols_of trees) (Some k) text ≡ o → o ≡ None
