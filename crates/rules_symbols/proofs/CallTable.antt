@@ -1,5 +1,5 @@
 -- The table of built-in calls beside that of operations, row by row.
-use Rattle.std.proofs.Common.{◌≡◌, ◌∙◌, ◌+◌, ◌<◌, ◌≤◌, ℕ, zero, suc, Bool, true, false, cond, not, Option, None, Some, List, [], ◌∷◌, filter, flat_map, length, map, slice_get, refl, sym, ap, arith, option_and_then}
+use Rattle.std.proofs.Common.{◌≡◌, ◌∙◌, ◌+◌, ◌≤◌, ℕ, zero, suc, false, not, Option, Some, List, [], ◌∷◌, filter, length, map, slice_get, refl, sym, ap, arith, option_and_then}
 use Rattle.action_code.specs.declared.operations.Operation.{Operation}
 use Rattle.action_code.specs.Operations.{operations}
 use Rattle.slicc_plan.specs.BuiltInCalls.{Argument, Call, calls}

@@ -1,14 +1,12 @@
 -- The fields of structures: what a body finds by a field's name in a type is, with its kind, what the type's symbol has under it.
-use Rattle.std.proofs.Common.{◌≡◌, ◌∙◌, ◌+◌, ◌≤◌, ◌++◌, ◌&&◌, ℕ, zero, suc, Bool, true, false, cond, not, Option, None, Some, List, [], ◌∷◌, filter, find, flat_map, length, map, position, slice_get, refl, sym, ap, subst, arith, option_and_then, unwrap_or, codes}
+use Rattle.std.proofs.Common.{◌≡◌, ◌∙◌, ◌+◌, ◌≤◌, ℕ, zero, suc, Bool, true, false, cond, Option, None, Some, List, [], ◌∷◌, find, flat_map, length, map, position, slice_get, refl, sym, ap, subst, arith, option_and_then}
 use Rattle.std.specs.Prelude.{is_some}
 use Rattle.std.specs.Option.{option_map, option_or}
 use Rattle.std.specs.Str.{bytes_eq}
 use Rattle.ruby_value.specs.declared.kind.Kind.{Kind}
-use Rattle.ruby_value.specs.declared.kind.Kind.TheVariants as kind
 use Rattle.ruby_symbols.specs.declared.types.FieldSymbol.{FieldSymbol}
 use Rattle.ruby_symbols.specs.declared.types.StructureSymbol.{StructureSymbol}
 use Rattle.ruby_symbols.specs.Types.{field_named}
-use Rattle.slicc_ast.specs.declared.tree.declaration.Function.TheVariants.{Plain}
 use Rattle.slicc_ast.specs.declared.tree.declaration.Member.{Member}
 use Rattle.slicc_ast.specs.declared.tree.declaration.Member.TheVariants.{Field, Method, Skipped}
 use Rattle.slicc_ast.specs.declared.tree.declaration.Pairs.{Pairs}
@@ -20,15 +18,13 @@ use Rattle.slicc_ast.specs.declared.tree.machine.Machine.{Machine}
 use Rattle.slicc_ast.specs.declared.tree.name.Name.{Name}
 use Rattle.slicc_ast.specs.declared.tree.name.TypeName.{TypeName}
 use Rattle.slicc_ast.specs.declared.tree.span.Span.{Span}
-use Rattle.slicc_plan.specs.declared.broken.Broken.{Broken}
 use Rattle.slicc_plan.specs.declared.built_in.BuiltInType.{BuiltInType}
 use Rattle.slicc_plan.specs.declared.built_in.BuiltInType.TheVariants.{Request}
 use Rattle.slicc_plan.specs.AllRules.{IsAccepted}
-use Rattle.slicc_plan.specs.BuiltIn.{NamedType, built_in_type, nature_of, request_fields}
-use Rattle.slicc_plan.specs.Declarations.{Declaration, enumeration, machine, states, structure, member, Scope, everywhere, within, declared_in, first_named, global_declarations, is_external, is_named, machine_declarations, machine_names, machines_of, wide_scopes}
-use Rattle.slicc_plan.specs.ExpressionTypes.{built_in_field, field_declared, field_in, fields_scope, request_field}
+use Rattle.slicc_plan.specs.BuiltIn.{NamedType, built_in_type, request_fields}
+use Rattle.slicc_plan.specs.Declarations.{Declaration, enumeration, states, structure, member, Scope, everywhere, within, declared_in, first_named, global_declarations, is_external, is_named, machine_declarations, machine_names, machines_of, wide_scopes}
+use Rattle.slicc_plan.specs.ExpressionTypes.{field_declared, fields_scope}
 use Rattle.slicc_plan.specs.FieldTypes.{FieldIn, all_fields, field_of, fields_of, fields_within, may_be_field, no_field_type, refused_field, refused_for}
-use Rattle.slicc_plan.specs.InitialFields.{field_kind}
 use Rattle.slicc_plan.specs.Lawful.{HasNumberedTypes}
 use Rattle.slicc_plan.specs.Meanings.{Meaning, value, unknown, is_value, value_of_type}
 use Rattle.slicc_plan.specs.Prototypes.{told_unless, unknown_built_in, unknown_structure}
@@ -40,11 +36,11 @@ use Rattle.slicc_plan.specs.Types.{KnownType, built_in, enumerated, structured, 
 use Rattle.slicc_plan.specs.UnknownTypes.{member_uses, use_of}
 use Rattle.slicc_plan.proofs.Messages.{none_unknown}
 use Rattle.slicc_plan.proofs.Room.{mapped_at, none_at}
-use Rattle.slicc_plan.proofs.There.{There, all_there, found_passes, get_right, in_machine, machine_there, there_first, there_flat, there_found}
+use Rattle.slicc_plan.proofs.There.{There, all_there, found_passes, get_right, in_machine, machine_there, there_flat, there_found}
 use Rattle.slicc_plan.proofs.Types.{as_many, each_structure, structure_stands}
 use Rattle.rules_symbols.specs.FieldsOf.{HasFieldsOf}
 use Rattle.rules_symbols.specs.Fitting.{IsOfKind}
-use Rattle.rules_symbols.proofs.Lists.{every, every_there, find_position, position_cons, position_mapped, position_some, short_position}
+use Rattle.rules_symbols.proofs.Lists.{every_there, find_position, position_cons, position_mapped, position_some, short_position}
 use Rattle.rules_symbols.proofs.Parameters.{machine_scope, none_refused, type_known}
 use Rattle.rules_symbols.proofs.ValueKinds.{global_kind_there, in_protocol, kind_there}
 
@@ -237,10 +233,13 @@ module _ (trees : List Tree) (accepted : IsAccepted trees) where
             value_of (sym is ∙ ap (λ (x : Scope). Some (value_of_type m (type_in trees x kind.text))) own ∙ ap (λ (o : Option KnownType). Some (value_of_type m o)) typed.found ∙ ap (λ b. Some (cond b (value typed.type) unknown)) typed.valued) in
             let place = field_there trees scope text s.members kind called attributes span found in
             let few_so : length (field_symbols trees scope s) ≤ 65536 = omega (arith, short) in
-            let its : plain_of (type_in trees scope kind.text) ≡ typed.its_kind = ap plain_of typed.found ∙ ap kind_or_bool typed.is_plain in
-            (place.number, field_made trees scope text kind called attributes,
-            short_position (λ (f : FieldSymbol). bytes_eq f.name text) (field_symbols trees scope s) few_so ∙ place.first, place.at,
-            subst (λ (x : Meaning). IsOfKind trees m (plain_of (type_in trees scope kind.text)) x) (sym means) (typed.has_kind ∙ ap Some (sym its)))
+            let its : plain_of (type_in trees scope kind.text) ≡ typed.its_kind = ap plain_of typed.found ∙ ap kind_or_bool typed.is_plain in (
+              place.number,
+              field_made trees scope text kind called attributes,
+              short_position (λ (f : FieldSymbol). bytes_eq f.name text) (field_symbols trees scope s) few_so ∙ place.first,
+              place.at,
+              subst (λ (x : Meaning). IsOfKind trees m (plain_of (type_in trees scope kind.text)) x) (sym means) (typed.has_kind ∙ ap Some (sym its)),
+            )
           where
             value_of : {x y : Meaning} → Some x ≡ Some y → x ≡ y
             value_of e = cc e
@@ -284,12 +283,14 @@ module _ (trees : List Tree) (accepted : IsAccepted trees) where
                 let place = position_some test request_fields f there (found_passes test request_fields f found) in
                 let at_place : slice_get request_fields place.0 ≡ Some f = sym (find_position test request_fields place.0 place.1) ∙ found in
                 let kinded = every_there (λ (g : NamedType). is_some (built_in_kind g.meaning)) request_fields f refl there in
-                let few_so : length (map symbols.request_field request_fields) ≤ 65536 = omega arith in
-                (place.0, symbols.request_field f,
-                short_position (λ (g : FieldSymbol). bytes_eq g.name text) (map symbols.request_field request_fields) few_so
-                ∙ position_mapped (λ (g : FieldSymbol). bytes_eq g.name text) symbols.request_field request_fields ∙ place.1,
-                mapped_at symbols.request_field request_fields place.0 f at_place,
-                subst (λ (x : Meaning). IsOfKind trees m (kind_or_bool (built_in_kind f.meaning)) x) means (some_kind (built_in_kind f.meaning) kinded))
+                let few_so : length (map symbols.request_field request_fields) ≤ 65536 = omega arith in (
+                  place.0,
+                  symbols.request_field f,
+                  short_position (λ (g : FieldSymbol). bytes_eq g.name text) (map symbols.request_field request_fields) few_so
+                      ∙ position_mapped (λ (g : FieldSymbol). bytes_eq g.name text) symbols.request_field request_fields ∙ place.1,
+                  mapped_at symbols.request_field request_fields place.0 f at_place,
+                  subst (λ (x : Meaning). IsOfKind trees m (kind_or_bool (built_in_kind f.meaning)) x) means (some_kind (built_in_kind f.meaning) kinded),
+                )
 
     of_type : HasNumberedTypes (symbols_of trees) → (t : KnownType) → IsIn m t → (n : ℕ) → structure_number trees t ≡ Some n → (symbol : StructureSymbol) × (slice_get (symbols_of trees).structures n ≡ Some symbol) × HasFieldsOf trees m t symbol
     of_type few (structured scope s) inside n number = fields_of_structure few scope s inside.0 inside.1 n number

@@ -1,9 +1,9 @@
 -- What a name finds among things that are made of declarations, at most one of each.
-use Rattle.std.proofs.Common.{◌≡◌, ◌∙◌, ◌+◌, ◌++◌, ℕ, zero, suc, Bool, true, false, Option, None, Some, List, [], ◌∷◌, flat_map, position, slice_get, refl, sym, ap, subst, arith, inl, inr}
+use Rattle.std.proofs.Common.{◌≡◌, ◌∙◌, ◌+◌, ℕ, zero, suc, Bool, true, None, Some, List, [], ◌∷◌, flat_map, position, slice_get, refl, sym, ap, subst, arith, inl, inr}
 use Rattle.std.specs.Prelude.{◌⊎◌}
 use Rattle.std.proofs.lemmas.Bool.{false_from_ne_true}
 use Rattle.slicc_plan.specs.SymbolsOfMachines.{numbered_from}
-use Rattle.slicc_plan.proofs.There.{There, there_first, there_flat, there_later, there_left, there_right}
+use Rattle.slicc_plan.proofs.There.{There, there_first, there_flat, there_left, there_right}
 use Rattle.rules_symbols.proofs.Lists.{flat_there, position_none, position_some, position_there, there_append}
 
 pub only_there : {Y : Type 0} (y z : Y) → There (y ∷ []) z → y ≡ z

@@ -1,12 +1,9 @@
 -- The members of enumerations: a member that a body names has its number in the symbol of the type, and is a value of the type's kind.
-use Rattle.std.proofs.Common.{◌≡◌, ◌∙◌, ◌+◌, ◌≤◌, ◌++◌, ◌||◌, ℕ, zero, suc, Bool, true, false, cond, Option, None, Some, List, [], ◌∷◌, find, flat_map, length, map, position, slice_get, refl, sym, ap, subst, arith, option_and_then, codes}
-use Rattle.std.specs.List.{list_any}
+use Rattle.std.proofs.Common.{◌≡◌, ◌∙◌, ◌≤◌, ◌||◌, ℕ, suc, Bool, true, false, cond, Option, None, Some, List, [], ◌∷◌, find, length, map, position, slice_get, refl, sym, ap, subst, arith, option_and_then, codes}
 use Rattle.std.specs.Option.{option_map, option_or}
 use Rattle.std.specs.Str.{bytes_eq}
-use Rattle.ruby_value.specs.declared.kind.Kind.{Kind}
 use Rattle.ruby_value.specs.declared.kind.Kind.TheVariants as kind
 use Rattle.ruby_symbols.specs.declared.types.EnumerationSymbol.{EnumerationSymbol}
-use Rattle.ruby_symbols.specs.Kinds.{kind_of_enumeration}
 use Rattle.ruby_symbols.specs.Types.{enumeration_named, enumeration_of, member_named}
 use Rattle.slicc_ast.specs.declared.tree.declaration.State.{State}
 use Rattle.slicc_ast.specs.declared.tree.declaration.Structure.{Structure}
@@ -16,19 +13,18 @@ use Rattle.slicc_ast.specs.declared.tree.machine.Machine.{Machine}
 use Rattle.slicc_plan.specs.declared.built_in.BuiltInType.{BuiltInType}
 use Rattle.slicc_plan.specs.declared.built_in.BuiltInType.TheVariants.{MachineType, AccessPermission, RequestType, MessageSize}
 use Rattle.slicc_plan.specs.AllRules.{IsAccepted}
-use Rattle.slicc_plan.specs.BuiltIn.{built_in_type, is_among, is_table_nature, members_of, nature_of}
-use Rattle.slicc_plan.specs.Declarations.{Declaration, enumeration, structure, states, Scope, everywhere, within, first_named, global_declarations, is_external, is_named, machine_declarations, machine_names, machines_of}
-use Rattle.slicc_plan.specs.ExpressionTypes.{enumeration_members, is_enumeration_nature}
+use Rattle.slicc_plan.specs.BuiltIn.{built_in_type, is_among, is_table_nature, nature_of}
+use Rattle.slicc_plan.specs.Declarations.{Declaration, enumeration, structure, states, Scope, everywhere, within, first_named, global_declarations, is_external, is_named, machine_declarations, machines_of}
+use Rattle.slicc_plan.specs.ExpressionTypes.{enumeration_members}
 use Rattle.slicc_plan.specs.Lawful.{HasNumberedTypes}
 use Rattle.slicc_plan.specs.Limits.{is_enumeration}
 use Rattle.slicc_plan.specs.SymbolsOf.{symbols_of}
 use Rattle.slicc_plan.specs.SymbolsOfTypes.{enumeration_symbol, enumeration_symbols, owner}
 use Rattle.slicc_plan.specs.TypeNumbers.{ScopedDeclaration, declared_enumerations, declared_number, default_member, made_in, own_default, scoped_declarations, value_kind}
-use Rattle.slicc_plan.specs.Types.{KnownType, built_in, enumerated, structured, declared_type, external_type, global_type, structure_type, table_named, table_or_none, type_in, type_of_found, type_where}
+use Rattle.slicc_plan.specs.Types.{KnownType, built_in, enumerated, structured, declared_type, external_type, structure_type, table_named, table_or_none, type_in, type_of_found, type_where}
 use Rattle.slicc_plan.proofs.There.{There, all_there, found_passes, in_machine, machine_there, there_filtered, there_found}
 use Rattle.slicc_plan.proofs.Types.{enumeration_stands}
-use Rattle.rules_symbols.proofs.Lists.{find_none, position_cons, position_some, short_position}
-use Rattle.rules_symbols.proofs.Owners.{first_is}
+use Rattle.rules_symbols.proofs.Lists.{find_none, position_cons, short_position}
 use Rattle.rules_symbols.proofs.TypeKinds.{first_found, first_place, later_place, no_enumeration, others, permissions, requests, sizes, types}
 use Rattle.rules_symbols.proofs.TypeNames.{enumeration_kind, global_enumeration, own_enumeration, spelled, text_of_built_in}
 use Rattle.rules_symbols.proofs.Types.{text_same}
@@ -265,7 +261,13 @@ module _ (trees : List Tree) (accepted : IsAccepted trees) (k : ℕ) (m : Machin
       let e = found.symbol in
       let place = named_in members called among in
       let short : length e.members ≤ 65535 = all_there (λ (x : EnumerationSymbol). length x.members ≤ 65535) (symbols_of trees).enumerations e few.members (found.number, found.stands) in
-      let few_so : length e.members ≤ 65536 = omega (arith, short) in
-      (found.number, e, place.0, found.named, found.stands,
-      short_position (λ member. bytes_eq member called) e.members few_so
-      ∙ ap (position (λ member. bytes_eq member called)) found.has_members ∙ place.1, found.has_kind)
+      let few_so : length e.members ≤ 65536 = omega (arith, short) in (
+        found.number,
+        e,
+        place.0,
+        found.named,
+        found.stands,
+        short_position (λ member. bytes_eq member called) e.members few_so
+            ∙ ap (position (λ member. bytes_eq member called)) found.has_members ∙ place.1,
+        found.has_kind,
+      )

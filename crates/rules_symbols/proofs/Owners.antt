@@ -1,7 +1,7 @@
 -- Which machine a declaration is made in, by its number, and which declaration a name is that of. In an accepted protocol machines
 -- have different names, and so have the declarations of a machine.
 use Rattle.std.specs.Prelude.{◌⊎◌}
-use Rattle.std.proofs.Common.{◌≡◌, ◌∙◌, ◌==◌, ◌<◌, ◌++◌, ◌&&◌, ℕ, zero, suc, Bool, true, false, cond, Option, None, Some, List, [], ◌∷◌, All, eqb-true, find, flat_map, map, position, slice_get, refl, sym, ap, subst, arith, inl, inr}
+use Rattle.std.proofs.Common.{◌≡◌, ◌∙◌, ◌==◌, ◌++◌, ℕ, zero, suc, Bool, true, false, Option, None, Some, List, [], ◌∷◌, All, eqb-true, flat_map, map, position, slice_get, refl, sym, ap, subst, arith, inl, inr}
 use Rattle.std.specs.List.{AllPairs}
 use Rattle.std.specs.Str.{bytes_eq}
 use Rattle.std.proofs.lemmas.Bool.{false_from_ne_true}
@@ -18,7 +18,7 @@ use Rattle.slicc_plan.specs.Declarations.{Declaration, machine, Scope, everywher
 use Rattle.slicc_plan.specs.SymbolsOfTypes.{owner}
 use Rattle.slicc_plan.specs.TypeNumbers.{ScopedDeclaration, made_in, made_with_its_own, scoped_declarations}
 use Rattle.slicc_plan.proofs.Names.{Apart, ApartIn, machine_apart, scoped_apart}
-use Rattle.slicc_plan.proofs.There.{There, found_passes, in_machine, machine_there, there_found, there_later}
+use Rattle.slicc_plan.proofs.There.{There, found_passes, machine_there, there_found, there_later}
 use Rattle.rules_symbols.proofs.Lists.{all_right, find_some, flat_there, only_one, pair_at, pairs_right, position_first, position_some, position_there, there_map}
 use Rattle.rules_symbols.proofs.Types.{same_text, text_same}
 

@@ -1,21 +1,16 @@
 -- Parameters and objects of types of values among a machine's symbols; and that the types of declarations are known.
-use Rattle.std.proofs.Common.{◌≡◌, ◌∙◌, ◌++◌, ◌||◌, ℕ, zero, suc, Bool, true, false, cond, not, Option, None, Some, List, [], ◌∷◌, flat_map, map, slice_get, refl, sym, ap, subst, option_and_then}
+use Rattle.std.proofs.Common.{◌≡◌, ◌∙◌, ◌++◌, ℕ, suc, Bool, true, false, cond, not, Option, None, Some, List, [], ◌∷◌, flat_map, slice_get, refl, sym, ap, option_and_then}
 use Rattle.ruby_value.specs.declared.kind.Kind.{Kind}
 use Rattle.ruby_value.specs.Prelude.{default_value}
-use Rattle.ruby_symbols.specs.declared.types.FieldSymbol.{FieldSymbol}
 use Rattle.slicc_ast.specs.declared.tree.item.Tree.{Tree}
-use Rattle.slicc_ast.specs.declared.tree.machine.Literal.{Literal}
 use Rattle.slicc_ast.specs.declared.tree.machine.Machine.{Machine}
 use Rattle.slicc_ast.specs.declared.tree.machine.Object.{Object}
 use Rattle.slicc_ast.specs.declared.tree.machine.Parameter.{Parameter}
 use Rattle.slicc_ast.specs.declared.tree.name.TypeName.{TypeName}
-use Rattle.slicc_plan.specs.declared.broken.Broken.{Broken}
-use Rattle.slicc_plan.specs.declared.built_in.BuiltInType.{BuiltInType}
 use Rattle.slicc_plan.specs.declared.built_in.BuiltInType.TheVariants.{AbstractEntry, Cycles}
 use Rattle.slicc_plan.specs.AllRules.{IsAccepted}
 use Rattle.slicc_plan.specs.BrokenBodies.{broken_in_declaration, broken_in_machine, wrong_type, wrong_type_in}
-use Rattle.slicc_plan.specs.BrokenDeclarations.{broken_declarations}
-use Rattle.slicc_plan.specs.Declarations.{Declaration, parameter, object, Scope, everywhere, within, declared_in, machine_declarations, machines_of, wide_scopes}
+use Rattle.slicc_plan.specs.Declarations.{Declaration, parameter, object, Scope, within, declared_in, machine_declarations, machines_of, wide_scopes}
 use Rattle.slicc_plan.specs.FieldTypes.{refused_field_types}
 use Rattle.slicc_plan.specs.Limits.{limits_passed}
 use Rattle.slicc_plan.specs.MachineValues.{line_kind, reference_in, reference_of_kind, value_in, value_of_kind, written_value}
@@ -26,7 +21,7 @@ use Rattle.slicc_plan.specs.TransitionNames.{wrong_names}
 use Rattle.slicc_plan.specs.TwiceDeclared.{names_twice_declared}
 use Rattle.slicc_plan.specs.TypeNumbers.{plain_kind, value_kind}
 use Rattle.slicc_plan.specs.Types.{KnownType, built_in, enumerated, structured, is_built_in, type_in}
-use Rattle.slicc_plan.specs.UnknownTypes.{TypeUse, is_unknown, unknown_in, unknown_type, unknown_types, unknown_use, use_of, uses_in}
+use Rattle.slicc_plan.specs.UnknownTypes.{TypeUse, is_unknown, unknown_in, unknown_type, unknown_types, unknown_use, uses_in}
 use Rattle.slicc_plan.specs.Values.{bad_values}
 use Rattle.slicc_plan.proofs.Room.{left_none, mapped_at, none_at, right_none}
 use Rattle.slicc_plan.proofs.There.{There, there_flat}

@@ -1,8 +1,8 @@
 -- The messages of ports: in an accepted protocol a port is on a buffer of its machine, whose messages have the port's type.
 use Rattle.std.specs.Prelude.{◌⊎◌}
-use Rattle.std.proofs.Common.{◌≡◌, ◌∙◌, ◌==◌, ◌+◌, ◌++◌, ◌&&◌, ◌||◌, ℕ, zero, suc, Bool, true, false, cond, eqb-true, not, Option, None, Some, List, [], ◌∷◌, All, find, flat_map, map, slice_get, refl, sym, ap, subst, arith, option_and_then, inl, inr, codes}
+use Rattle.std.proofs.Common.{◌≡◌, ◌∙◌, ◌==◌, ◌+◌, ◌++◌, ◌&&◌, ◌||◌, ℕ, zero, suc, Bool, true, false, cond, eqb-true, not, Option, None, Some, List, [], ◌∷◌, find, flat_map, map, slice_get, refl, sym, ap, subst, arith, option_and_then, inl, inr, codes}
 use Rattle.std.specs.List.{AllPairs, list_any}
-use Rattle.std.specs.Option.{option_map, option_or}
+use Rattle.std.specs.Option.{option_or}
 use Rattle.std.specs.Str.{bytes_eq}
 use Rattle.std.proofs.lemmas.Bool.{and_parts}
 use Rattle.std.proofs.lemmas.List.Kept.{AllPairs-cons}
@@ -20,20 +20,18 @@ use Rattle.slicc_ast.specs.declared.tree.machine.OutPort.{OutPort}
 use Rattle.slicc_ast.specs.declared.tree.name.Name.{Name}
 use Rattle.slicc_ast.specs.declared.tree.name.TypeName.{TypeName}
 use Rattle.slicc_ast.specs.declared.tree.span.Span.{Span}
-use Rattle.slicc_plan.specs.declared.broken.Broken.{Broken}
 use Rattle.slicc_plan.specs.declared.broken.Rule.TheVariants.{WrongType}
-use Rattle.slicc_plan.specs.declared.built_in.BuiltInType.{BuiltInType}
 use Rattle.slicc_plan.specs.declared.built_in.BuiltInType.TheVariants.{Buffer, Int, MachineId, Request}
 use Rattle.slicc_plan.specs.AllRules.{IsAccepted}
 use Rattle.slicc_plan.specs.BrokenBodies.{broken_port, port_environment, wrong_type_in}
 use Rattle.slicc_plan.specs.Buffers.{BufferIn, Place, own, to_network, from_network, PortOn, buffer_in, buffer_named, buffer_of, is_same_known, place_by, port_in, port_on, ports_of}
-use Rattle.slicc_plan.specs.BuiltIn.{is_same_type, is_table_nature, nature_of, type_number}
+use Rattle.slicc_plan.specs.BuiltIn.{is_table_nature, nature_of, type_number}
 use Rattle.slicc_plan.specs.Declarations.{Declaration, parameter, object, in_port, out_port, within, first_named, is_named, machine_declarations, machines_of, named_declarations}
 use Rattle.slicc_plan.specs.Environment.{bound_as, fixed, declared_value, meaning_of_found, names_everywhere, value_outside, wrong_meaning, wrong_value_name}
 use Rattle.slicc_plan.specs.JudgedStatements.{body_judged}
-use Rattle.slicc_plan.specs.Meanings.{Meaning, value, table, unknown, unless, table_of, is_message, is_object_type, is_value, object_of_type, unfit, value_of_type}
+use Rattle.slicc_plan.specs.Meanings.{value, table, unknown, unless, table_of, is_message, is_object_type, is_value, object_of_type, unfit, value_of_type}
 use Rattle.slicc_plan.specs.MessageTypes.{is_on, is_on_network, message_type, port_message, type_at}
-use Rattle.slicc_plan.specs.Networks.{all_ports, all_ports_from, differ, differing_after, doubled_in, is_mandatory, is_one_network, is_one_own_buffer, is_own, port_broken, wrong_networks, wrong_ports_in}
+use Rattle.slicc_plan.specs.Networks.{all_ports, all_ports_from, differ, differing_after, doubled_in, is_mandatory, is_one_network, is_one_own_buffer, is_own, port_broken, wrong_ports_in}
 use Rattle.slicc_plan.specs.Machines.{in_each}
 use Rattle.slicc_plan.specs.Setups.{attributes_of, buffer_place, is_ordered}
 use Rattle.slicc_plan.specs.SymbolsOfMachines.{buffer_of_place, buffer_symbol, buffer_symbols, machine_symbols}
@@ -42,7 +40,7 @@ use Rattle.slicc_plan.specs.Types.{KnownType, built_in, enumerated, structured, 
 use Rattle.slicc_plan.specs.UnknownTypes.{use_of}
 use Rattle.slicc_plan.proofs.MachinesKept.{machines_kept}
 use Rattle.slicc_plan.proofs.Room.{left_none, right_none}
-use Rattle.slicc_plan.proofs.There.{There, all_from, all_there, found_passes, there_first, there_flat, there_found, there_later, there_left, there_right}
+use Rattle.slicc_plan.proofs.There.{There, all_from, all_there, found_passes, there_first, there_flat, there_found, there_left, there_right}
 use Rattle.rules_symbols.specs.NamedValues.{IsPortOf}
 use Rattle.rules_symbols.proofs.Lists.{find_some}
 use Rattle.rules_symbols.proofs.Owners.{text_turned}
@@ -161,10 +159,11 @@ module _ (trees : List Tree) (accepted : IsAccepted trees) where
           let parts = and_parts (q.machine == k) (bytes_eq q.buffer.name.text p.buffer.name.text) (found_passes (is_on k p.buffer) (all_ports trees) q found.1) in
           let same_number : p.machine ≡ q.machine = number ∙ sym (eqb-true q.machine k parts.0) in
           let named : bytes_eq p.buffer.name.text q.buffer.name.text ≡ true = turned q.buffer.name.text p.buffer.name.text parts.1 in
-          let one : is_one_own_buffer p q ≡ true = own_one q place same_number named in
-          (q.message,
-          ap (type_at trees k p.buffer) place ∙ ap (λ (o : Option PortOn). option_or (port_message o) (cond (is_mandatory p.buffer) (Some (built_in Request)) None)) found.1,
-          alike q p (second (is_one_network p.buffer.place q.buffer.place) (is_one_own_buffer p q) one) (first_before Undiffering (is_on k p.buffer) (all_ports trees) q p ports_undiffering found.1 there passes))
+          let one : is_one_own_buffer p q ≡ true = own_one q place same_number named in (
+            q.message,
+            ap (type_at trees k p.buffer) place ∙ ap (λ (o : Option PortOn). option_or (port_message o) (cond (is_mandatory p.buffer) (Some (built_in Request)) None)) found.1,
+            alike q p (second (is_one_network p.buffer.place q.buffer.place) (is_one_own_buffer p q) one) (first_before Undiffering (is_on k p.buffer) (all_ports trees) q p ports_undiffering found.1 there passes),
+          )
         where
           turned : (a b : List ℕ) → bytes_eq a b ≡ true → bytes_eq b a ≡ true
           turned a b is = sym (text_turned a b) ∙ is
@@ -200,10 +199,12 @@ module _ (trees : List Tree) (accepted : IsAccepted trees) where
           let test : PortOn → Bool = λ (x : PortOn). is_on_network n x.buffer.place in
           let found = find_some test (all_ports trees) p there passes in
           let q = found.0 in
-          let other : is_on_network n q.buffer.place ≡ true = found_passes test (all_ports trees) q found.1 in
-          (q.message, typed ∙ ap port_message found.1,
-          alike q p (first (is_one_network p.buffer.place q.buffer.place) (is_one_own_buffer p q) (one_network n p.buffer.place q.buffer.place passes other))
-          (first_before Undiffering test (all_ports trees) q p ports_undiffering found.1 there passes))
+          let other : is_on_network n q.buffer.place ≡ true = found_passes test (all_ports trees) q found.1 in (
+            q.message,
+            typed ∙ ap port_message found.1,
+            alike q p (first (is_one_network p.buffer.place q.buffer.place) (is_one_own_buffer p q) (one_network n p.buffer.place q.buffer.place passes other))
+                (first_before Undiffering test (all_ports trees) q p ports_undiffering found.1 there passes),
+          )
 
       by : (x : Place) → p.buffer.place ≡ x → HasMessage p k
       by own place = on_own place

@@ -1,19 +1,16 @@
 -- What a name stands for: a table, a value, a reference to nothing, a buffer, a port, the sequencer, or nothing that is declared.
-use Rattle.std.proofs.Common.{◌≡◌, ◌∙◌, ◌≤◌, ◌+◌, ◌++◌, ℕ, zero, suc, Bool, true, false, cond, Option, None, Some, List, [], ◌∷◌, filter, filter_map, find, flat_map, length, map, position, slice_get, refl, sym, ap, subst, arith, option_and_then}
+use Rattle.std.proofs.Common.{◌≡◌, ◌∙◌, ◌≤◌, ◌++◌, ℕ, zero, suc, Bool, true, false, cond, Option, None, Some, List, [], ◌∷◌, filter, filter_map, flat_map, length, slice_get, refl, sym, ap, subst, arith, option_and_then}
 use Rattle.std.specs.List.{cons_option}
 use Rattle.std.specs.Option.{option_map, option_or}
 use Rattle.std.specs.Str.{bytes_eq}
 use Rattle.std.proofs.lemmas.Bool.{false_from_ne_true}
 use Rattle.ruby_value.specs.declared.kind.Kind.{Kind}
 use Rattle.ruby_symbols.specs.declared.machine.BufferSymbol.{BufferSymbol}
-use Rattle.ruby_symbols.specs.declared.machine.MachineSymbols.{MachineSymbols}
-use Rattle.ruby_symbols.specs.declared.machine.PortSymbol.{PortSymbol}
-use Rattle.ruby_symbols.specs.declared.machine.TableSort.{TableSort}
 use Rattle.ruby_symbols.specs.declared.machine.TableSymbol.{TableSymbol}
 use Rattle.ruby_symbols.specs.declared.names.Named.{Named}
 use Rattle.ruby_symbols.specs.declared.names.Named.TheVariants as named
 use Rattle.ruby_symbols.specs.declared.types.FieldSymbol.{FieldSymbol}
-use Rattle.ruby_symbols.specs.Names.{buffer_among, buffer_named, port_named, port_or_sequencer, sequencer_named, stands_for, table_named}
+use Rattle.ruby_symbols.specs.Names.{buffer_among, buffer_named, port_named, port_or_sequencer, sequencer_named, stands_for}
 use Rattle.ruby_symbols.specs.Types.{field_named}
 use Rattle.slicc_ast.specs.declared.tree.declaration.Pairs.{Pairs}
 use Rattle.slicc_ast.specs.declared.tree.item.Tree.{Tree}
@@ -23,20 +20,16 @@ use Rattle.slicc_ast.specs.declared.tree.machine.InPort.{InPort}
 use Rattle.slicc_ast.specs.declared.tree.machine.Literal.{Literal}
 use Rattle.slicc_ast.specs.declared.tree.machine.Machine.{Machine}
 use Rattle.slicc_ast.specs.declared.tree.machine.OutPort.{OutPort}
-use Rattle.slicc_ast.specs.declared.tree.name.Name.{Name}
-use Rattle.slicc_ast.specs.declared.tree.span.Span.{Span}
-use Rattle.slicc_plan.specs.declared.broken.Broken.{Broken}
 use Rattle.slicc_plan.specs.declared.built_in.BuiltInType.{BuiltInType}
-use Rattle.slicc_plan.specs.declared.built_in.BuiltInType.TheVariants.{Int, Cycles, Tick, Bool as Boolean, Address, MachineId, MachineType, NetDest, DataBlock, AccessPermission, RequestType, MessageSize, Request, AbstractEntry, Void, Cache, Directory, TbeTable, Sequencer, Buffer}
+use Rattle.slicc_plan.specs.declared.built_in.BuiltInType.TheVariants.{Int, Cycles, Tick, Bool as Boolean, Address, MachineId, MachineType, NetDest, DataBlock, AccessPermission, RequestType, MessageSize, Sequencer, Buffer}
 use Rattle.slicc_plan.specs.AllRules.{IsAccepted}
-use Rattle.slicc_plan.specs.Buffers.{BufferIn, buffer_in, buffer_of}
-use Rattle.slicc_plan.specs.BuiltIn.{is_same_type}
+use Rattle.slicc_plan.specs.Buffers.{buffer_of}
 use Rattle.slicc_plan.specs.Declarations.{Declaration, parameter, object, out_port, in_port, within, first_named, is_named, machine_declarations, machines_of, wide_scopes}
 use Rattle.slicc_plan.specs.Limits.{beyond, beyond_in_body, beyond_in_declaration, beyond_in_machine, beyond_in_scope, event_members, is_action, is_counted_function, is_object, is_port, is_sequencer, most_objects, most_of_each, most_ports, most_sequencers, state_members}
-use Rattle.slicc_plan.specs.MachineValues.{reference_in, reference_of_kind, reference_of_type, line_kind, value_in, value_of_kind, value_of_type}
+use Rattle.slicc_plan.specs.MachineValues.{reference_in, reference_of_type, value_in, value_of_kind, value_of_type}
 use Rattle.slicc_plan.specs.Scopes.{machine_bodies}
 use Rattle.slicc_plan.specs.SymbolsOfMachines.{buffer_of_place, buffer_symbol, buffer_symbols, in_port_symbol, machine_symbols, out_port_symbol, port_on_buffer, sequencer_in, sequencer_name, table_of_sort, table_symbol}
-use Rattle.slicc_plan.specs.Tables.{table_in, table_sort}
+use Rattle.slicc_plan.specs.Tables.{table_sort}
 use Rattle.slicc_plan.specs.TypeNumbers.{built_in_kind, plain_kind}
 use Rattle.slicc_plan.specs.Types.{KnownType, built_in, enumerated, structured, is_built_in, type_in}
 use Rattle.slicc_plan.proofs.Few.{limits_kept, within_limit}
@@ -44,7 +37,7 @@ use Rattle.slicc_plan.proofs.Room.{left_none, mapped_at, none_at, right_none}
 use Rattle.slicc_plan.proofs.There.{There, there_filtered, there_first, there_later}
 use Rattle.rules_symbols.proofs.Lists.{find_none}
 use Rattle.rules_symbols.proofs.Owners.{named_once}
-use Rattle.rules_symbols.proofs.Types.{built_in_same, same_text, text_same}
+use Rattle.rules_symbols.proofs.Types.{built_in_same, same_text}
 use Rattle.rules_symbols.proofs.ValueNames.{M, declared_there, buffers_none, buffers_some, in_ports_none, in_ports_some, is_named_decl, out_ports_none, out_ports_some, references_none, references_some, tables_none, tables_some, values_none, values_some, written_as, written_there}
 
 -- What is one of these is none of the others.
@@ -93,16 +86,21 @@ module _ (trees : List Tree) (m : Machine) (name : List ℕ) (pairs : Pairs) whe
   apart_buffer : (o : Option KnownType) (l : Option Literal) → is_built_in Buffer o ≡ true
       → (table_of_sort trees m name (table_sort o pairs) ≡ []) × (value_of_type trees name o l ≡ []) × (reference_of_type trees m name o ≡ [])
   apart_buffer o l is =
-      let one = is_type Buffer o is in
-      (ap (λ (x : Option KnownType). table_of_sort trees m name (table_sort x pairs)) one,
-      ap (λ (x : Option KnownType). value_of_type trees name x l) one, ap (λ (x : Option KnownType). reference_of_type trees m name x) one)
+      let one = is_type Buffer o is in (
+        ap (λ (x : Option KnownType). table_of_sort trees m name (table_sort x pairs)) one,
+        ap (λ (x : Option KnownType). value_of_type trees name x l) one,
+        ap (λ (x : Option KnownType). reference_of_type trees m name x) one,
+      )
 
   apart_sequencer : (o : Option KnownType) (l : Option Literal) → is_built_in Sequencer o ≡ true
       → (table_of_sort trees m name (table_sort o pairs) ≡ []) × (value_of_type trees name o l ≡ []) × (reference_of_type trees m name o ≡ []) × (is_built_in Buffer o ≡ false)
   apart_sequencer o l is =
-      let one = is_type Sequencer o is in
-      (ap (λ (x : Option KnownType). table_of_sort trees m name (table_sort x pairs)) one,
-      ap (λ (x : Option KnownType). value_of_type trees name x l) one, ap (λ (x : Option KnownType). reference_of_type trees m name x) one, ap (is_built_in Buffer) one)
+      let one = is_type Sequencer o is in (
+        ap (λ (x : Option KnownType). table_of_sort trees m name (table_sort x pairs)) one,
+        ap (λ (x : Option KnownType). value_of_type trees name x l) one,
+        ap (λ (x : Option KnownType). reference_of_type trees m name x) one,
+        ap (is_built_in Buffer) one,
+      )
 
 module _ (trees : List Tree) (m : Machine) where
   value_alone : (d : Declaration) (v : FieldSymbol) → value_in trees m d ≡ v ∷ [] → table_symbol trees m d ≡ []
@@ -243,10 +241,12 @@ module _ (trees : List Tree) (accepted : IsAccepted trees) (k : ℕ) (m : Machin
         → (n : ℕ) × (stands_for (machine_symbols trees k m) text ≡ Some (named.Value n)) × (slice_get (machine_symbols trees k m).values n ≡ Some v)
     value_stands d v there is made =
         let found = values_some trees accepted k m at text d v there is made in
-        let tables = tables_none trees accepted k m at text (each_named (table_symbol trees m) d there is (value_alone trees m d v made)) in
-        (found.0,
-        ap (λ o. option_or (option_map named.Table o) later_values) tables
-        ∙ ap (λ o. option_or (option_map named.Value o) later_references) found.1, found.2)
+        let tables = tables_none trees accepted k m at text (each_named (table_symbol trees m) d there is (value_alone trees m d v made)) in (
+          found.0,
+          ap (λ o. option_or (option_map named.Table o) later_values) tables
+              ∙ ap (λ o. option_or (option_map named.Value o) later_references) found.1,
+          found.2,
+        )
 
     pub reference_stands : (d : Declaration) (v : FieldSymbol) → There (machine_declarations m) d → is_named text d ≡ true → reference_in trees m d ≡ v ∷ []
         → (n : ℕ) × (stands_for (machine_symbols trees k m) text ≡ Some (named.Reference n)) × (slice_get (machine_symbols trees k m).references n ≡ Some v)
@@ -254,11 +254,13 @@ module _ (trees : List Tree) (accepted : IsAccepted trees) (k : ℕ) (m : Machin
         let found = references_some trees accepted k m at text d v there is made in
         let alone = reference_alone trees m d v made in
         let tables = tables_none trees accepted k m at text (each_named (table_symbol trees m) d there is alone.0) in
-        let values = values_none trees accepted k m at text (each_named (value_in trees m) d there is alone.1) in
-        (found.0,
-        ap (λ o. option_or (option_map named.Table o) later_values) tables
-        ∙ ap (λ o. option_or (option_map named.Value o) later_references) values
-        ∙ ap (λ o. option_or (option_map named.Reference o) later_buffers) found.1, found.2)
+        let values = values_none trees accepted k m at text (each_named (value_in trees m) d there is alone.1) in (
+          found.0,
+          ap (λ o. option_or (option_map named.Table o) later_values) tables
+              ∙ ap (λ o. option_or (option_map named.Value o) later_references) values
+              ∙ ap (λ o. option_or (option_map named.Reference o) later_buffers) found.1,
+          found.2,
+        )
 
     -- what is no field stands for what comes later
     no_field : (d : Declaration) → There (machine_declarations m) d → is_named text d ≡ true → IsNoField trees m d → stands_for (machine_symbols trees k m) text ≡ later_buffers
@@ -270,10 +272,12 @@ module _ (trees : List Tree) (accepted : IsAccepted trees) (k : ℕ) (m : Machin
     pub buffer_stands : (d : Declaration) (b : BufferSymbol) → There (machine_declarations m) d → is_named text d ≡ true → buffer_symbol trees k m d ≡ b ∷ []
         → (n : ℕ) × (stands_for (machine_symbols trees k m) text ≡ Some (named.Buffer n)) × (slice_get (machine_symbols trees k m).buffers n ≡ Some b)
     buffer_stands d b there is made =
-        let found = buffers_some trees accepted k m at text d b there is made in
-        (found.0,
-        no_field d there is (buffer_alone trees m k d b made)
-        ∙ ap (λ o. option_or (option_map named.Buffer o) (port_or_sequencer (machine_symbols trees k m) text)) found.1, found.2)
+        let found = buffers_some trees accepted k m at text d b there is made in (
+          found.0,
+          no_field d there is (buffer_alone trees m k d b made)
+              ∙ ap (λ o. option_or (option_map named.Buffer o) (port_or_sequencer (machine_symbols trees k m) text)) found.1,
+          found.2,
+        )
 
     -- what is no buffer either
     abbrev later_ports : Option Named
@@ -300,10 +304,14 @@ module _ (trees : List Tree) (accepted : IsAccepted trees) (k : ℕ) (m : Machin
   in_port_stands p b there declared on =
       let text = p.name.text in
       let is = same_text text in
-      let found = in_ports_some trees accepted k m at text (decl.InPort p) b there is (λ j. ap (port_on_buffer text j) on) in
-      (found.0, found.1,
-      no_buffer text (in_port p) declared is (refl, refl, refl) refl
-      ∙ ap (λ o. option_or (option_map named.InPort o) (later_ports text)) found.2, found.3, found.4)
+      let found = in_ports_some trees accepted k m at text (decl.InPort p) b there is (λ j. ap (port_on_buffer text j) on) in (
+        found.0,
+        found.1,
+        no_buffer text (in_port p) declared is (refl, refl, refl) refl
+            ∙ ap (λ o. option_or (option_map named.InPort o) (later_ports text)) found.2,
+        found.3,
+        found.4,
+      )
 
   pub out_port_stands : (p : OutPort) (b : ℕ) → There m.declarations (decl.OutPort p) → There (machine_declarations m) (out_port p) → buffer_among (buffer_symbols trees k m) p.buffer.text ≡ Some b
       → (n : ℕ) × (j : ℕ) × (stands_for (machine_symbols trees k m) p.name.text ≡ Some (named.OutPort n))
@@ -312,11 +320,15 @@ module _ (trees : List Tree) (accepted : IsAccepted trees) (k : ℕ) (m : Machin
       let text = p.name.text in
       let is = same_text text in
       let found = out_ports_some trees accepted k m at text (decl.OutPort p) b there is (λ j. ap (port_on_buffer text j) on) in
-      let none = not_in text (out_port p) declared is (λ x written j. let same : decl.OutPort p ≡ x = cc written in subst (λ (y : Decl). in_port_symbol (buffer_symbols trees k m) j y ≡ []) same refl) in
-      (found.0, found.1,
-      no_buffer text (out_port p) declared is (refl, refl, refl) refl
-      ∙ ap (λ o. option_or (option_map named.InPort o) (later_ports text)) none
-      ∙ ap (λ o. option_or (option_map named.OutPort o) (sequencer_named (machine_symbols trees k m).sequencer text)) found.2, found.3, found.4)
+      let none = not_in text (out_port p) declared is (λ x written j. let same : decl.OutPort p ≡ x = cc written in subst (λ (y : Decl). in_port_symbol (buffer_symbols trees k m) j y ≡ []) same refl) in (
+        found.0,
+        found.1,
+        no_buffer text (out_port p) declared is (refl, refl, refl) refl
+            ∙ ap (λ o. option_or (option_map named.InPort o) (later_ports text)) none
+            ∙ ap (λ o. option_or (option_map named.OutPort o) (sequencer_named (machine_symbols trees k m).sequencer text)) found.2,
+        found.3,
+        found.4,
+      )
 
   -- the sequencer
   no_port : (d : Declaration) → is_sequencer trees m d ≡ true → (x : Decl) → written_as d ≡ Some x → (j : ℕ) → (in_port_symbol (buffer_symbols trees k m) j x ≡ []) × (out_port_symbol (buffer_symbols trees k m) j x ≡ [])

@@ -1,5 +1,5 @@
 -- The kinds of values by the names of types: what the symbols say of a name is the kind of the type that it stands for.
-use Rattle.std.proofs.Common.{◌≡◌, ◌∙◌, ◌==◌, ◌+◌, ◌++◌, ◌&&◌, ◌||◌, ℕ, zero, suc, Bool, true, false, cond, Option, None, Some, List, [], ◌∷◌, eqb-true, filter, find, flat_map, map, not, position, slice_get, refl, sym, ap, subst, arith, option_and_then, codes, inl, inr}
+use Rattle.std.proofs.Common.{◌≡◌, ◌∙◌, ◌==◌, ◌+◌, ◌&&◌, ◌||◌, ℕ, zero, suc, Bool, true, false, cond, Option, None, Some, List, [], ◌∷◌, eqb-true, find, flat_map, map, position, slice_get, refl, sym, ap, subst, arith, option_and_then, codes, inl, inr}
 use Rattle.std.specs.Prelude.{◌⊎◌}
 use Rattle.std.specs.Option.{option_map, option_or}
 use Rattle.std.specs.Str.{bytes_eq}
@@ -18,7 +18,7 @@ use Rattle.slicc_ast.specs.declared.tree.declaration.Symbol.{Symbol}
 use Rattle.slicc_ast.specs.declared.tree.item.Tree.{Tree}
 use Rattle.slicc_ast.specs.declared.tree.machine.Machine.{Machine}
 use Rattle.slicc_plan.specs.declared.built_in.BuiltInType.{BuiltInType}
-use Rattle.slicc_plan.specs.declared.built_in.BuiltInType.TheVariants.{Int, Cycles, Tick, Bool as Boolean, Address, MachineId, MachineType, NetDest, DataBlock, AccessPermission, RequestType, MessageSize, Request, AbstractEntry, Void, Cache, Directory, TbeTable, Sequencer, Buffer}
+use Rattle.slicc_plan.specs.declared.built_in.BuiltInType.TheVariants.{Int, Cycles, Tick, Bool as Boolean, Address, MachineId, MachineType, NetDest, DataBlock, AccessPermission, RequestType, MessageSize, Cache, Directory, TbeTable, Sequencer, Buffer}
 use Rattle.slicc_plan.specs.AllRules.{IsAccepted}
 use Rattle.slicc_plan.specs.Buffers.{is_same_known, is_same_scope}
 use Rattle.slicc_plan.specs.BuiltIn.{built_in_type, is_table_nature, nature_of}
@@ -28,12 +28,12 @@ use Rattle.slicc_plan.specs.Machines.{directory_structure, entry_structure, tbe_
 use Rattle.slicc_plan.specs.SymbolsOf.{symbols_of}
 use Rattle.slicc_plan.specs.SymbolsOfMachines.{line_number, machine_symbols}
 use Rattle.slicc_plan.specs.SymbolsOfTypes.{built_in_enumeration, enumeration_symbol, enumeration_symbols, request_symbol, structure_symbol, structure_symbols}
-use Rattle.slicc_plan.specs.TypeNumbers.{ScopedDeclaration, built_in_kind, declared_enumerations, declared_number, declared_structures, declares, default_member, is_its, is_known_as, made_in, plain_kind, reference_kind, scoped_declarations, structure_number, value_kind}
+use Rattle.slicc_plan.specs.TypeNumbers.{ScopedDeclaration, built_in_kind, declared_enumerations, declared_structures, declares, is_its, is_known_as, reference_kind, scoped_declarations, structure_number, value_kind}
 use Rattle.slicc_plan.specs.Types.{KnownType, built_in, enumerated, structured, declared_type, external_type, global_type, structure_type, table_named, table_or_none, type_in, type_of_found, type_where}
 use Rattle.slicc_plan.proofs.There.{There, found_passes, there_found}
 use Rattle.rules_symbols.proofs.Lists.{filter_there, find_none, flat_there, position_cons, position_there, short_position, there_append}
-use Rattle.rules_symbols.proofs.Owners.{first_is, named_once, own_declared, owned, text_turned}
-use Rattle.rules_symbols.proofs.TypeNames.{MadeEnumeration, MadeStructure, few_enumerations, few_structures, global_enumeration, is_the_enumeration, is_the_structure, made_enumeration, made_structure, not_spelled, own_enumeration, own_structure, plain_found, spelled, text_of_built_in}
+use Rattle.rules_symbols.proofs.Owners.{named_once, own_declared, owned, text_turned}
+use Rattle.rules_symbols.proofs.TypeNames.{few_enumerations, few_structures, global_enumeration, is_the_enumeration, is_the_structure, made_enumeration, made_structure, not_spelled, own_enumeration, own_structure, plain_found, spelled, text_of_built_in}
 use Rattle.rules_symbols.proofs.Types.{known_alike, same_text, structures_alike, text_same}
 
 -- Lines.

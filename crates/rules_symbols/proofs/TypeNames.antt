@@ -1,43 +1,36 @@
 -- The names of types, as symbols have them: what is found by a name among the symbols of enumerations and structures has the number of
 -- the type that the name stands for, and the kind of its values.
-use Rattle.std.proofs.Common.{◌≡◌, ◌∙◌, ◌==◌, ◌<◌, ◌≤◌, ◌+◌, ◌++◌, ◌&&◌, ◌||◌, ℕ, zero, suc, Bool, true, false, cond, Option, None, Some, List, [], ◌∷◌, All, eqb-true, filter, find, flat_map, length, map, not, position, slice_get, length-append, refl, sym, ap, subst, arith, option_and_then, codes}
+use Rattle.std.proofs.Common.{◌≡◌, ◌∙◌, ◌≤◌, ◌+◌, ◌&&◌, ℕ, zero, suc, Bool, true, false, Option, None, Some, List, [], ◌∷◌, find, flat_map, length, map, not, position, slice_get, length-append, refl, sym, ap, arith, option_and_then, codes}
 use Rattle.std.specs.Option.{option_map, option_or}
 use Rattle.std.specs.Str.{bytes_eq}
-use Rattle.std.proofs.lemmas.Bool.{and_parts, false_from_ne_true}
-use Rattle.std.proofs.lemmas.Option.{slice_get_within}
-use Rattle.ruby_value.specs.declared.kind.Kind.{Kind}
+use Rattle.std.proofs.lemmas.Bool.{false_from_ne_true}
 use Rattle.ruby_value.specs.declared.kind.Kind.TheVariants as kind
-use Rattle.ruby_symbols.specs.declared.machine.MachineSymbols.{MachineSymbols}
 use Rattle.ruby_symbols.specs.declared.types.EnumerationSymbol.{EnumerationSymbol}
 use Rattle.ruby_symbols.specs.declared.types.StructureSymbol.{StructureSymbol}
-use Rattle.ruby_symbols.specs.Kinds.{kind_named, kind_of_enumeration, kind_of_own, kind_of_reference, simple_kind}
-use Rattle.ruby_symbols.specs.Numbers.{is_number, number_of}
-use Rattle.ruby_symbols.specs.Types.{enumeration_named, enumeration_of, is_owner, structure_of}
+use Rattle.ruby_symbols.specs.Kinds.{kind_of_enumeration}
+use Rattle.ruby_symbols.specs.Types.{enumeration_of, is_owner, structure_of}
 use Rattle.slicc_ast.specs.declared.tree.declaration.State.{State}
 use Rattle.slicc_ast.specs.declared.tree.declaration.Structure.{Structure}
 use Rattle.slicc_ast.specs.declared.tree.declaration.Symbol.{Symbol}
 use Rattle.slicc_ast.specs.declared.tree.item.Tree.{Tree}
 use Rattle.slicc_ast.specs.declared.tree.machine.Machine.{Machine}
-use Rattle.slicc_ast.specs.declared.tree.name.Name.{Name}
 use Rattle.slicc_plan.specs.declared.built_in.BuiltInType.{BuiltInType}
 use Rattle.slicc_plan.specs.declared.built_in.BuiltInType.TheVariants.{Int, Cycles, Tick, Bool as Boolean, Address, MachineId, MachineType, NetDest, DataBlock, AccessPermission, RequestType, MessageSize, Request, AbstractEntry, Void, Cache, Directory, TbeTable, Sequencer, Buffer}
 use Rattle.slicc_plan.specs.AllRules.{IsAccepted}
-use Rattle.slicc_plan.specs.Buffers.{is_same_known, is_same_scope}
-use Rattle.slicc_plan.specs.BuiltIn.{NamedType, built_in_type, built_in_types, type_number}
-use Rattle.slicc_plan.specs.Declarations.{Declaration, enumeration, structure, states, Scope, everywhere, within, first_named, is_external, is_named, is_text, machine_declarations, machines_of, name_of}
+use Rattle.slicc_plan.specs.Buffers.{is_same_scope}
+use Rattle.slicc_plan.specs.BuiltIn.{NamedType, built_in_type, built_in_types}
+use Rattle.slicc_plan.specs.Declarations.{Declaration, enumeration, structure, states, Scope, everywhere, within, is_external, is_named, machines_of}
 use Rattle.slicc_plan.specs.Limits.{is_counted_structure, is_enumeration}
-use Rattle.slicc_plan.specs.Machines.{directory_structure, entry_structure, tbe_structure}
 use Rattle.slicc_plan.specs.SymbolsOf.{symbols_of}
-use Rattle.slicc_plan.specs.SymbolsOfMachines.{line_number, machine_symbols}
-use Rattle.slicc_plan.specs.SymbolsOfTypes.{built_in_symbols, enumeration_declared, enumeration_symbol, enumeration_symbols, field_symbols, owner, request_symbol, structure_declared, structure_symbol, structure_symbols}
-use Rattle.slicc_plan.specs.TypeNumbers.{ScopedDeclaration, built_in_kind, declared_enumerations, declared_number, declared_structures, declares, default_found, default_member, is_its, is_known_as, made_in, own_default, plain_kind, reference_kind, scoped_declarations, structure_number, value_kind}
-use Rattle.slicc_plan.specs.Types.{KnownType, built_in, enumerated, structured, declared_type, external_type, structure_type, table_named, type_in}
+use Rattle.slicc_plan.specs.SymbolsOfTypes.{built_in_symbols, enumeration_symbol, enumeration_symbols, field_symbols, owner, request_symbol, structure_symbol, structure_symbols}
+use Rattle.slicc_plan.specs.TypeNumbers.{ScopedDeclaration, declared_enumerations, declared_number, declared_structures, declares, default_found, default_member, is_known_as, made_in, own_default, scoped_declarations, structure_number}
+use Rattle.slicc_plan.specs.Types.{KnownType, enumerated, structured, structure_type}
 use Rattle.slicc_plan.proofs.Few.{few_types}
-use Rattle.slicc_plan.proofs.There.{There, found_passes, in_machine, machine_there, there_found}
+use Rattle.slicc_plan.proofs.There.{There, found_passes, there_found}
 use Rattle.slicc_plan.proofs.Types.{as_many, each_enumeration, each_structure, made_at}
-use Rattle.rules_symbols.proofs.Lists.{every, every_there, filter_there, find_none, find_position, position_append, position_made, position_none, position_there, short_position}
-use Rattle.rules_symbols.proofs.Owners.{first_is, named_once, own_declared, owned, text_turned, unowned}
-use Rattle.rules_symbols.proofs.Types.{known_alike, same_text, structures_alike, text_same}
+use Rattle.rules_symbols.proofs.Lists.{every_there, filter_there, find_position, position_append, position_made, position_none, position_there, short_position}
+use Rattle.rules_symbols.proofs.Owners.{owned, text_turned, unowned}
+use Rattle.rules_symbols.proofs.Types.{text_same}
 
 -- The name of a built-in type.
 
@@ -169,10 +162,12 @@ module _ (trees : List Tree) where
       position_made (enumeration_symbol trees) (declares (enumerated scope text members)) (is_the_enumeration own text) (declared_enumerations trees)
       (λ x there.
       let inside = filter_there (λ (d : ScopedDeclaration). is_enumeration d.declaration) (scoped_declarations trees) x there in
-      let made = made_enumeration trees x.scope x.declaration inside.1 in
-      (made.symbol, made.made,
-      ap (λ o. is_owner o own && bytes_eq made.symbol.name text) made.machine
-      ∙ ap (λ v. v && bytes_eq made.symbol.name text) (alike x inside.0) ∙ made.alike scope text members))
+      let made = made_enumeration trees x.scope x.declaration inside.1 in (
+        made.symbol,
+        made.made,
+        ap (λ o. is_owner o own && bytes_eq made.symbol.name text) made.machine
+            ∙ ap (λ v. v && bytes_eq made.symbol.name text) (alike x inside.0) ∙ made.alike scope text members,
+      ))
 
   structures_found : (own : Option ℕ) (scope : Scope) (s : Structure) → OwnedBy own scope
       → position (is_the_structure own s.name.text) (flat_map (structure_symbol trees) (declared_structures trees)) ≡ position (declares (structured scope s)) (declared_structures trees)
@@ -180,10 +175,12 @@ module _ (trees : List Tree) where
       position_made (structure_symbol trees) (declares (structured scope s)) (is_the_structure own s.name.text) (declared_structures trees)
       (λ x there.
       let inside = filter_there (λ (d : ScopedDeclaration). is_counted_structure d.declaration) (scoped_declarations trees) x there in
-      let made = made_structure trees x.scope x.declaration inside.1 in
-      (made.symbol, made.made,
-      ap (λ o. is_owner o own && bytes_eq made.symbol.name s.name.text) made.machine
-      ∙ ap (λ v. v && bytes_eq made.symbol.name s.name.text) (alike x inside.0) ∙ made.alike scope s))
+      let made = made_structure trees x.scope x.declaration inside.1 in (
+        made.symbol,
+        made.made,
+        ap (λ o. is_owner o own && bytes_eq made.symbol.name s.name.text) made.machine
+            ∙ ap (λ v. v && bytes_eq made.symbol.name s.name.text) (alike x inside.0) ∙ made.alike scope s,
+      ))
 
   -- what stands under a number has the default member of the type
   pub enumeration_kind : (t : KnownType) (n : ℕ) → declared_number trees t ≡ Some n → kind_of_enumeration (symbols_of trees) n ≡ Some (kind.Enum n (default_member trees t))

@@ -1,18 +1,17 @@
 -- Types that agree are known alike, and have one kind in a machine.
-use Rattle.std.proofs.Common.{◌≡◌, ◌∙◌, ◌&&◌, ◌||◌, ◌+◌, ℕ, Bool, true, false, cond, Option, None, Some, List, [], ◌∷◌, map, filter, find, position, slice_get, eqb-true, refl, sym, ap, option_and_then}
+use Rattle.std.proofs.Common.{◌≡◌, ◌∙◌, ◌&&◌, ◌||◌, ◌+◌, ℕ, Bool, true, false, cond, Option, None, Some, List, map, find, position, slice_get, eqb-true, refl, sym, ap, option_and_then}
 use Rattle.std.specs.Option.{option_map}
 use Rattle.std.specs.Str.{bytes_eq}
 use Rattle.std.proofs.lemmas.Bool.{and_parts}
 use Rattle.std.proofs.lemmas.Slice.Eq.{bytes_eq-Decides}
 use mathlib.Core.Path.{fun_ext}
-use Rattle.ruby_value.specs.declared.kind.Kind.{Kind}
 use Rattle.ruby_value.specs.declared.kind.Kind.TheVariants as kind
 use Rattle.slicc_ast.specs.declared.tree.declaration.Structure.{Structure}
 use Rattle.slicc_ast.specs.declared.tree.item.Tree.{Tree}
 use Rattle.slicc_ast.specs.declared.tree.machine.Machine.{Machine}
 use Rattle.slicc_plan.specs.declared.built_in.BuiltInType.{BuiltInType}
 use Rattle.slicc_plan.specs.declared.built_in.BuiltInType.TheVariants.{Int, Cycles, Tick, Bool as Boolean, Address, MachineId, MachineType, NetDest, DataBlock, AccessPermission, RequestType, MessageSize, Request, AbstractEntry, Void, Cache, Directory, TbeTable, Sequencer, Buffer}
-use Rattle.slicc_plan.specs.BuiltIn.{NamedType, built_in_types, is_same_type, nature_of, type_number}
+use Rattle.slicc_plan.specs.BuiltIn.{NamedType, built_in_types, is_same_type, type_number}
 use Rattle.slicc_plan.specs.Buffers.{is_same_known, is_same_scope}
 use Rattle.slicc_plan.specs.Declarations.{Scope, everywhere, within}
 use Rattle.slicc_plan.specs.Machines.{directory_structure, entry_structure, tbe_structure}

@@ -1,40 +1,31 @@
 -- In an accepted protocol a type of values that a name stands for has a kind, and so has each type of lines; and a parameter or an
 -- object of such a type stands under its name with that kind.
 use Rattle.std.specs.Prelude.{◌⊎◌}
-use Rattle.std.proofs.Common.{◌≡◌, ◌∙◌, ◌+◌, ◌++◌, ◌&&◌, ◌||◌, ℕ, zero, suc, Bool, true, false, cond, not, Option, None, Some, List, [], ◌∷◌, filter, find, flat_map, map, position, slice_get, refl, sym, ap, subst, option_and_then, inl, inr}
+use Rattle.std.proofs.Common.{◌≡◌, ◌∙◌, ◌+◌, ◌++◌, ◌&&◌, ◌||◌, ℕ, zero, suc, Bool, true, false, cond, not, Option, None, Some, List, [], ◌∷◌, find, map, slice_get, refl, sym, ap, subst, option_and_then, inl, inr}
 use Rattle.std.specs.List.{list_any}
 use Rattle.std.specs.Option.{option_map, option_or}
 use Rattle.std.specs.Str.{bytes_eq}
 use Rattle.std.proofs.lemmas.List.Folds.{list_any-append}
 use Rattle.ruby_value.specs.declared.kind.Kind.{Kind}
 use Rattle.ruby_value.specs.declared.kind.Kind.TheVariants as kind
-use Rattle.ruby_symbols.specs.declared.names.Named.{Named}
-use Rattle.ruby_symbols.specs.declared.names.Named.TheVariants as named
-use Rattle.ruby_symbols.specs.declared.types.FieldSymbol.{FieldSymbol}
-use Rattle.ruby_symbols.specs.Names.{stands_for}
 use Rattle.slicc_ast.specs.declared.tree.declaration.State.{State}
 use Rattle.slicc_ast.specs.declared.tree.declaration.Structure.{Structure}
 use Rattle.slicc_ast.specs.declared.tree.declaration.Symbol.{Symbol}
 use Rattle.slicc_ast.specs.declared.tree.item.Tree.{Tree}
-use Rattle.slicc_ast.specs.declared.tree.machine.Literal.{Literal}
 use Rattle.slicc_ast.specs.declared.tree.machine.Machine.{Machine}
 use Rattle.slicc_plan.specs.declared.built_in.BuiltInType.{BuiltInType}
-use Rattle.slicc_plan.specs.declared.built_in.BuiltInType.TheVariants.{Int, Cycles, Tick, Bool as Boolean, Address, MachineId, MachineType, NetDest, DataBlock, AccessPermission, RequestType, MessageSize, Request, AbstractEntry, Void, Cache, Directory, TbeTable, Sequencer, Buffer}
-use Rattle.slicc_plan.specs.AllRules.{IsAccepted}
+use Rattle.slicc_plan.specs.declared.built_in.BuiltInType.TheVariants.{Int, Cycles, Tick, Bool as Boolean, Address, MachineId, MachineType, NetDest, DataBlock, AccessPermission, RequestType, MessageSize}
 use Rattle.slicc_plan.specs.Buffers.{is_same_known, is_same_scope, listed}
 use Rattle.slicc_plan.specs.BuiltIn.{built_in_type, nature_of}
-use Rattle.slicc_plan.specs.Declarations.{Declaration, machine, enumeration, structure, states, parameter, object, Scope, everywhere, within, first_named, global_declarations, is_external, is_named, machine_declarations, machines_of}
+use Rattle.slicc_plan.specs.Declarations.{Declaration, machine, enumeration, structure, states, Scope, everywhere, within, first_named, global_declarations, is_external, is_named, machine_declarations, machines_of}
 use Rattle.slicc_plan.specs.FieldTypes.{may_be_field}
 use Rattle.slicc_plan.specs.Limits.{is_counted_structure, is_enumeration}
-use Rattle.slicc_plan.specs.MachineValues.{line_kind, reference_in, reference_of_kind, value_in, value_of_kind, written_value}
 use Rattle.slicc_plan.specs.Machines.{directory_structure, entry_structure, is_directory_entry, is_entry, is_tbe, own_structures, structure_in, tbe_structure}
-use Rattle.slicc_plan.specs.Meanings.{is_line, is_line_of, is_value, line_structures}
-use Rattle.slicc_plan.specs.SymbolsOfMachines.{machine_symbols}
-use Rattle.slicc_plan.specs.TypeNumbers.{ScopedDeclaration, built_in_kind, declared_enumerations, declared_number, declared_structures, declares, default_member, is_its, is_known_as, made_in, made_with_its_own, plain_kind, reference_kind, scoped_declarations, structure_number, value_kind}
+use Rattle.slicc_plan.specs.Meanings.{is_line, is_line_of, is_value}
+use Rattle.slicc_plan.specs.TypeNumbers.{ScopedDeclaration, built_in_kind, declared_enumerations, declared_number, declared_structures, declares, default_member, is_its, is_known_as, made_in, made_with_its_own, reference_kind, scoped_declarations, structure_number, value_kind}
 use Rattle.slicc_plan.specs.Types.{KnownType, built_in, enumerated, structured, declared_type, external_type, global_type, structure_type, table_named, type_in, type_of_found, type_where}
-use Rattle.slicc_plan.proofs.There.{There, found_passes, in_machine, machine_there, there_filtered, there_flat, there_found}
+use Rattle.slicc_plan.proofs.There.{There, in_machine, machine_there, there_filtered, there_flat, there_found}
 use Rattle.rules_symbols.proofs.Lists.{flat_there, position_some}
-use Rattle.rules_symbols.proofs.Standing.{reference_stands, value_stands}
 use Rattle.rules_symbols.proofs.Types.{known_alike, same_text, structures_alike}
 
 -- A type is itself, and being the same goes both ways.

@@ -1,7 +1,5 @@
 -- What the names of a machine's parameters, objects and ports stand for among its symbols, by what these are declared as.
-use Rattle.std.specs.Prelude.{◌⊎◌}
-use Rattle.std.proofs.Common.{◌≡◌, ◌∙◌, ◌≤◌, ◌+◌, ◌++◌, ℕ, zero, suc, Bool, true, false, cond, Option, None, Some, List, [], ◌∷◌, filter, filter_map, find, flat_map, length, map, position, slice_get, refl, sym, ap, subst, arith, option_and_then, unwrap_or, inl, inr}
-use Rattle.std.specs.Option.{option_map, option_or}
+use Rattle.std.proofs.Common.{◌≡◌, ◌∙◌, ◌≤◌, ℕ, Bool, true, false, Option, None, Some, List, [], ◌∷◌, flat_map, length, map, slice_get, refl, sym, ap, subst, arith, option_and_then}
 use Rattle.std.specs.Str.{bytes_eq}
 use Rattle.ruby_value.specs.declared.kind.Kind.{Kind}
 use Rattle.ruby_symbols.specs.declared.machine.BufferSymbol.{BufferSymbol}
@@ -9,27 +7,21 @@ use Rattle.ruby_symbols.specs.declared.machine.MachineSymbols.{MachineSymbols}
 use Rattle.ruby_symbols.specs.declared.machine.PortSymbol.{PortSymbol}
 use Rattle.ruby_symbols.specs.declared.machine.TableSort.{TableSort}
 use Rattle.ruby_symbols.specs.declared.machine.TableSymbol.{TableSymbol}
-use Rattle.ruby_symbols.specs.declared.names.Named.{Named}
-use Rattle.ruby_symbols.specs.declared.names.Named.TheVariants as named
 use Rattle.ruby_symbols.specs.declared.types.FieldSymbol.{FieldSymbol}
-use Rattle.ruby_symbols.specs.Names.{buffer_among, buffer_named, port_named, port_or_sequencer, sequencer_named, stands_for, table_named}
-use Rattle.ruby_symbols.specs.Numbers.{number_of}
+use Rattle.ruby_symbols.specs.Names.{buffer_among, buffer_named, port_named, table_named}
 use Rattle.ruby_symbols.specs.Types.{field_named}
 use Rattle.slicc_ast.specs.declared.tree.declaration.Pairs.{Pairs}
 use Rattle.slicc_ast.specs.declared.tree.item.Tree.{Tree}
 use Rattle.slicc_ast.specs.declared.tree.machine.Decl.{Decl}
 use Rattle.slicc_ast.specs.declared.tree.machine.Decl.TheVariants as decl
-use Rattle.slicc_ast.specs.declared.tree.machine.InPort.{InPort}
 use Rattle.slicc_ast.specs.declared.tree.machine.Literal.{Literal}
 use Rattle.slicc_ast.specs.declared.tree.machine.Machine.{Machine}
-use Rattle.slicc_ast.specs.declared.tree.machine.OutPort.{OutPort}
 use Rattle.slicc_ast.specs.declared.tree.name.Name.{Name}
 use Rattle.slicc_ast.specs.declared.tree.span.Span.{Span}
 use Rattle.slicc_plan.specs.AllRules.{IsAccepted}
-use Rattle.slicc_plan.specs.Buffers.{BufferIn, buffer_in, buffer_of}
+use Rattle.slicc_plan.specs.Buffers.{buffer_of}
 use Rattle.slicc_plan.specs.Declarations.{Declaration, enumeration, structure, states, parameter, object, out_port, in_port, action, function, within, is_named, machine_declarations, machines_of, named_declarations}
-use Rattle.slicc_plan.specs.MachineValues.{reference_in, reference_of_kind, reference_of_type, line_kind, value_in, value_of_kind, value_of_type}
-use Rattle.slicc_plan.specs.Setups.{attributes_of}
+use Rattle.slicc_plan.specs.MachineValues.{reference_in, reference_of_kind, line_kind, value_in, value_of_kind}
 use Rattle.slicc_plan.specs.SymbolsOfMachines.{buffer_of_place, buffer_symbol, buffer_symbols, in_port_symbol, machine_symbols, numbered_from, out_port_symbol, port_on_buffer, table_of_sort, table_symbol}
 use Rattle.slicc_plan.specs.Tables.{table_in}
 use Rattle.slicc_plan.specs.TypeNumbers.{plain_kind}
@@ -288,4 +280,3 @@ module _ (trees : List Tree) (accepted : IsAccepted trees) (k : ℕ) (m : Machin
         let both : record { name = text; buffer = b; declaration = found.1 } ∷ [] ≡ found.2 ∷ [] = sym (made found.1) ∙ found.6 in
         let one : record { name = text; buffer = b; declaration = found.1 } ≡ found.2 = cc both in
         (found.0, found.1, short_position (λ (p : PortSymbol). bytes_eq p.name text) (numbered_from (out_port_symbol (buffer_symbols trees k m)) 0 m.declarations) short ∙ found.3, found.4 ∙ ap Some (sym one), found.5)
-

@@ -1,21 +1,18 @@
 -- What is left of a meaning that fits what is wanted.
 use Rattle.std.proofs.Common.{◌≡◌, ◌∙◌, ◌||◌, ℕ, Bool, true, false, cond, Option, None, Some, List, [], ◌∷◌, refl, sym, ap, option_and_then}
-use Rattle.std.specs.List.{list_any}
 use Rattle.ruby_value.specs.declared.kind.Kind.{Kind}
 use Rattle.ruby_value.specs.declared.kind.Kind.TheVariants as kind
 use Rattle.ruby_value.specs.Prelude.{is_reference}
 use Rattle.slicc_ast.specs.declared.tree.declaration.Structure.{Structure}
 use Rattle.slicc_ast.specs.declared.tree.item.Tree.{Tree}
 use Rattle.slicc_ast.specs.declared.tree.machine.Machine.{Machine}
-use Rattle.slicc_ast.specs.declared.tree.name.Name.{Name}
 use Rattle.slicc_ast.specs.declared.tree.span.Span.{Span}
 use Rattle.slicc_plan.specs.declared.broken.Rule.{Rule}
 use Rattle.slicc_plan.specs.declared.built_in.BuiltInType.{BuiltInType}
 use Rattle.slicc_plan.specs.declared.built_in.BuiltInType.TheVariants.{Address}
-use Rattle.slicc_plan.specs.Buffers.{is_same_known}
-use Rattle.slicc_plan.specs.Declarations.{Scope, everywhere, within}
+use Rattle.slicc_plan.specs.Declarations.{Scope}
 use Rattle.slicc_plan.specs.Machines.{directory_structure, entry_structure, tbe_structure}
-use Rattle.slicc_plan.specs.Meanings.{Meaning, value, no_line, bare_line, new_line, incoming, outgoing, table, in_port, out_port, nothing, unknown, Wanted, one_of, any_line, only_no_line, comparable, address_or_line_of, table_of, any_in_port, any_out_port, agree, fits, is_line, is_line_of, line_structures, unless}
+use Rattle.slicc_plan.specs.Meanings.{Meaning, value, no_line, bare_line, new_line, incoming, outgoing, table, in_port, out_port, nothing, unknown, one_of, any_line, only_no_line, comparable, address_or_line_of, table_of, any_in_port, any_out_port, agree, fits, is_line, is_line_of, line_structures, unless}
 use Rattle.slicc_plan.specs.TypeNumbers.{is_its, reference_kind, structure_number, value_kind}
 use Rattle.slicc_plan.specs.Types.{KnownType, built_in, enumerated, structured}
 use Rattle.rules_symbols.specs.Fitting.{IsAddressOrLine, IsAnyLine, IsComparable, IsInPort, IsLike, IsNoLine, IsOfKind, IsOutPort, IsSure, IsTable}

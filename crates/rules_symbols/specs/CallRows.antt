@@ -2,10 +2,9 @@
 -- it is called on, its name and how many arguments it is written with; and the operation of that number is on what the call is on,
 -- takes the kinds of its arguments and gives the kind of its answer. A receiver that is a value is the first argument, and what a call
 -- makes of a value that it changes is what the operation gives. The `new` of an `allocate` is no argument of an operation.
-use Rattle.std.specs.Prelude.{ℕ, ◌+◌, ◌++◌, Bool, true, false, cond, not, Option, None, Some, List, [], ◌∷◌, flat_map, length, take, codes}
+use Rattle.std.specs.Prelude.{ℕ, ◌+◌, ◌++◌, Bool, cond, Option, Some, List, [], ◌∷◌, flat_map, length, take, codes}
 use Rattle.std.specs.List.{list_any}
 use Rattle.std.specs.Str.{bytes_eq}
-use Rattle.ruby_value.specs.declared.kind.Kind.{Kind}
 use Rattle.ruby_value.specs.declared.kind.Kind.TheVariants as kind
 use Rattle.ruby_symbols.specs.declared.machine.TableSort.{TableSort}
 use Rattle.ruby_symbols.specs.declared.machine.TableSort.TheVariants as symbol_sort
@@ -20,7 +19,7 @@ use Rattle.action_code.specs.declared.operations.Receiver.{Receiver as ServedOn}
 use Rattle.action_code.specs.declared.operations.Receiver.TheVariants as served
 use Rattle.action_code.specs.declared.program.TableSort.TheVariants as code_sort
 use Rattle.body_meaning.specs.CallNumbers.{block_call, entry_call, index_call, plain_call, port_call, sequencer_call, set_call, table_call}
-use Rattle.slicc_plan.specs.BuiltInCalls.{Receiver, in_port, cache, directory, tbe_table, net_dest, data_block, sequencer, entry, nothing, Argument, value_of, new_line, address_or_line, cache_line, tbe_line, own_cache_line, own_tbe_line, event, state_of, Answer, no_value, answered, line, Change, no_change, of_receiver, of_block, of_lines, Call}
+use Rattle.slicc_plan.specs.BuiltInCalls.{Receiver, in_port, cache, directory, tbe_table, net_dest, data_block, sequencer, entry, nothing, Argument, value_of, address_or_line, Answer, no_value, answered, line, Change, of_receiver, of_block, Call}
 use Rattle.slicc_plan.specs.TypeNumbers.{built_in_kind, kind_or_bool}
 
 -- Numbers.

@@ -1,5 +1,5 @@
 -- The fields of a structure as a body sees them, and as its symbol has them.
-use Rattle.std.specs.Prelude.{ℕ, ◌≡◌, Option, Some, List, slice_get}
+use Rattle.std.specs.Prelude.{ℕ, ◌≡◌, Some, List, slice_get}
 use Rattle.ruby_symbols.specs.declared.types.FieldSymbol.{FieldSymbol}
 use Rattle.ruby_symbols.specs.declared.types.StructureSymbol.{StructureSymbol}
 use Rattle.ruby_symbols.specs.Types.{field_named}

@@ -1,6 +1,6 @@
 -- What may stand where something is wanted, if nothing is told of it. Where a value of a type is wanted that is a value of a type
 -- that agrees with it, or `OOD` where lines have the type; where a table or a port is wanted nothing else is one.
-use Rattle.std.specs.Prelude.{◌≡◌, ◌||◌, Bool, true, false, Option, None, Some, List}
+use Rattle.std.specs.Prelude.{◌≡◌, ◌||◌, true, false, Option, None, Some, List}
 use Rattle.ruby_value.specs.declared.kind.Kind.{Kind}
 use Rattle.ruby_value.specs.Prelude.{is_reference}
 use Rattle.slicc_ast.specs.declared.tree.item.Tree.{Tree}

@@ -6,7 +6,7 @@ use Rattle.ruby_symbols.specs.declared.machine.BufferSymbol.{BufferSymbol}
 use Rattle.ruby_symbols.specs.declared.machine.MachineSymbols.{MachineSymbols}
 use Rattle.ruby_symbols.specs.declared.machine.PortSymbol.{PortSymbol}
 use Rattle.ruby_symbols.specs.declared.names.Named.{Named}
-use Rattle.ruby_symbols.specs.declared.names.Named.TheVariants.{Value, Reference, InPort, OutPort}
+use Rattle.ruby_symbols.specs.declared.names.Named.TheVariants.{Value, Reference}
 use Rattle.ruby_symbols.specs.declared.types.FieldSymbol.{FieldSymbol}
 use Rattle.ruby_symbols.specs.Names.{stands_for}
 use Rattle.slicc_plan.specs.Types.{KnownType, structured}
