@@ -13,3 +13,4 @@ pub mod Parameters
 pub mod PortBuffers
 pub mod Fields
 pub mod Members
+pub mod FunctionKinds

@@ -42,7 +42,7 @@ use Rattle.rules_symbols.proofs.ValueNames.{M, declared_there, buffers_none, buf
 
 -- What is one of these is none of the others.
 
-is_type : (b : BuiltInType) (o : Option KnownType) → is_built_in b o ≡ true → o ≡ Some (built_in b)
+pub is_type : (b : BuiltInType) (o : Option KnownType) → is_built_in b o ≡ true → o ≡ Some (built_in b)
 is_type b None is = absurd (cc is)
 is_type b (Some (built_in c)) is = ap (λ (d : BuiltInType). Some (built_in d)) (sym (built_in_same b c is))
 is_type b (Some (enumerated scope text members)) is = absurd (cc is)

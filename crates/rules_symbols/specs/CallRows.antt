@@ -81,9 +81,9 @@ given_without on of_block = given.Value kind.Block
 given_without on _ = given.Nothing
 
 abbrev pub given_by : Receiver → Change → Answer → Given
-given_by on change no_value = given_without on change
-given_by on change (answered b) = given.Value (kind_or_bool (built_in_kind b))
-given_by on change line = given.Line
+given_by on c no_value = given_without on c
+given_by on c (answered b) = given.Value (kind_or_bool (built_in_kind b))
+given_by on c line = given.Line
 
 -- of a call that is written with so many of the arguments that may follow
 abbrev pub operation_of : Call → ℕ → Operation
