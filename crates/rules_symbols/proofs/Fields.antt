@@ -111,16 +111,17 @@ member_there (y ∷ ys) x (suc j, at) = let rest = member_there ys x (j, at) in 
 -- Structures that names stand for.
 
 -- a structure in its scope, whose members are looked at
-record IsStructureIn (trees : List Tree) (scope : Scope) (s : Structure) : Type 0 where
-  among : There (wide_scopes trees) scope
-  there : There (declared_in trees scope) (structure s)
-  declared : There (scoped_declarations trees) (made_in scope (structure s))
-  is_own : is_external s ≡ false
+pub record IsStructureIn (trees : List Tree) (scope : Scope) (s : Structure) : Type 0 where
+  pub among : There (wide_scopes trees) scope
+  pub there : There (declared_in trees scope) (structure s)
+  pub declared : There (scoped_declarations trees) (made_in scope (structure s))
+  pub is_own : is_external s ≡ false
 
 module _ (trees : List Tree) (accepted : IsAccepted trees) where
-  abbrev IsIn : Machine → KnownType → Type 0
+  abbrev pub IsIn : Machine → KnownType → Type 0
   IsIn m (structured scope s) = IsStructureIn trees scope s × (fields_scope m scope ≡ scope)
-  IsIn m t = Unit {0}
+  IsIn m (enumerated scope text members) = fields_scope m scope ≡ scope
+  IsIn m (built_in b) = Unit {0}
 
   type_is_in : (m : Machine) (scope : Scope) → fields_scope m scope ≡ scope → There (wide_scopes trees) scope → (d : Declaration) → There (declared_in trees scope) d → There (scoped_declarations trees) (made_in scope d)
       → (t : KnownType) → declared_type scope d ≡ Some t → IsIn m t
@@ -137,9 +138,9 @@ module _ (trees : List Tree) (accepted : IsAccepted trees) where
           let one : structured scope s ≡ t = cc same in
           subst (λ (u : KnownType). IsIn m u) one (record { among = among; there = there; declared = declared; is_own = is_so }, own)
   type_is_in m scope own among (enumeration e) there declared t is =
-      let one : enumerated scope e.name.text (map (λ (x : Symbol). x.name.text) e.members) ≡ t = cc is in subst (λ (u : KnownType). IsIn m u) one tt
+      let one : enumerated scope e.name.text (map (λ (x : Symbol). x.name.text) e.members) ≡ t = cc is in subst (λ (u : KnownType). IsIn m u) one own
   type_is_in m scope own among (states e) there declared t is =
-      let one : enumerated scope e.name.text (map (λ (x : State). x.name.text) e.members) ≡ t = cc is in subst (λ (u : KnownType). IsIn m u) one tt
+      let one : enumerated scope e.name.text (map (λ (x : State). x.name.text) e.members) ≡ t = cc is in subst (λ (u : KnownType). IsIn m u) one own
   type_is_in m scope own among _ there declared t is = absurd (cc is)
 
   module _ (k : ℕ) (m : Machine) (at : slice_get (machines_of trees) k ≡ Some m) where
@@ -156,7 +157,7 @@ module _ (trees : List Tree) (accepted : IsAccepted trees) where
         by None same = first (first_named text (global_declarations trees)) refl same
         by (Some b) same = let one : built_in b ≡ t = cc same in subst (λ (u : KnownType). IsIn m u) one tt
 
-    named_is_in : (text : List ℕ) (t : KnownType) → type_in trees (within m) text ≡ Some t → IsIn m t
+    pub named_is_in : (text : List ℕ) (t : KnownType) → type_in trees (within m) text ≡ Some t → IsIn m t
     named_is_in text t is = by (first_named text (machine_declarations m)) refl is
       where
         by : (o : Option Declaration) → find (is_named text) (machine_declarations m) ≡ o → type_where trees (within m) text o ≡ Some t → IsIn m t

@@ -14,3 +14,4 @@ pub mod PortBuffers
 pub mod Fields
 pub mod Members
 pub mod FunctionKinds
+pub mod StateKinds

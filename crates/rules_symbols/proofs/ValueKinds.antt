@@ -86,7 +86,7 @@ structure_numbered trees m s there own =
     (ap (λ b. is_same_known t (structure_type (within m) s b)) own ∙ structure_itself (within m) s)
 
 -- a type of lines is that of caches, of directories or of TBE tables
-abbrev IsOne : Machine → Option Structure → KnownType → Type 0
+abbrev pub IsOne : Machine → Option Structure → KnownType → Type 0
 IsOne m own t = (s : Structure) × (own ≡ Some s) × (is_same_known (structured (within m) s) t ≡ true)
 
 line_of_one : (m : Machine) (t : KnownType) (own : Option Structure) → is_line_of m (listed own) t ≡ true → IsOne m own t
@@ -120,7 +120,7 @@ module _ (trees : List Tree) (k : ℕ) (m : Machine) (at : slice_get (machines_o
   own_declared_there d there = in_machine trees m d (machine_there (global_declarations trees) m (k, at)) there
 
   -- each type of lines has a number and a kind
-  line_numbered : (scope : Scope) (s : Structure) (own : Option Structure) (p : Structure → Bool) → find p (own_structures m) ≡ own → IsOne m own (structured scope s) → (n : ℕ) × (structure_number trees (structured scope s) ≡ Some n)
+  pub line_numbered : (scope : Scope) (s : Structure) (own : Option Structure) (p : Structure → Bool) → find p (own_structures m) ≡ own → IsOne m own (structured scope s) → (n : ℕ) × (structure_number trees (structured scope s) ≡ Some n)
   line_numbered scope s own p found one =
       let there = own_there m p one.0 (found ∙ one.1) in
       let number = structure_numbered trees m one.0 (own_declared_there (structure one.0) there.0) there.1 in

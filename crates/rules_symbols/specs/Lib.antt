@@ -2,4 +2,5 @@ pub mod Fitting
 pub mod CallRows
 pub mod NamedValues
 pub mod FieldsOf
+pub mod StateKinds
 pub mod Prelude
