@@ -3,3 +3,4 @@ pub use Rattle.rules_symbols.specs.Fitting.{IsAddressOrLine, IsAnyLine, IsCompar
 pub use Rattle.rules_symbols.specs.CallRows.{argument_operand, call_number, given_by, is_other_work, number_of_call, operation_of, receiver_operand, served_on}
 pub use Rattle.rules_symbols.specs.FieldsOf.{HasFieldsOf}
 pub use Rattle.rules_symbols.specs.NamedValues.{IsNamedValue, IsPortOf, IsReferenceOf, IsValueOf}
+pub use Rattle.rules_symbols.specs.StateKinds.{argument_kind}

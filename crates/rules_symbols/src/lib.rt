@@ -4,12 +4,14 @@
 
 mod calls;
 mod fitting;
+mod functions;
 mod kinds;
 mod named;
 mod parts_of_types;
 
 pub use calls::calls_are_operations;
 pub use fitting::what_fits_has_the_kind;
+pub use functions::{functions_have_kinds, state_functions_have_kinds};
 pub use kinds::{
     names_of_types_have_kinds, types_of_values_have_kinds, types_that_agree_have_one_kind,
 };
