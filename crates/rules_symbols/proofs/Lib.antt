@@ -15,3 +15,4 @@ pub mod Fields
 pub mod Members
 pub mod FunctionKinds
 pub mod StateKinds
+pub mod StatementForms
