@@ -40,6 +40,7 @@ use Rattle.slicc_plan.proofs.There.{There, all_there, found_passes, get_right, i
 use Rattle.slicc_plan.proofs.Types.{as_many, each_structure, structure_stands}
 use Rattle.rules_symbols.specs.FieldsOf.{HasFieldsOf}
 use Rattle.rules_symbols.specs.Fitting.{IsOfKind}
+use Rattle.rules_symbols.specs.TypedMeaning.{IsStructureIn, IsTypeIn}
 use Rattle.rules_symbols.proofs.Lists.{every_there, find_position, position_cons, position_mapped, position_some, short_position}
 use Rattle.rules_symbols.proofs.Parameters.{machine_scope, none_refused, type_known}
 use Rattle.rules_symbols.proofs.ValueKinds.{global_kind_there, in_protocol, kind_there}
@@ -110,18 +111,9 @@ member_there (y ∷ ys) x (suc j, at) = let rest = member_there ys x (j, at) in 
 
 -- Structures that names stand for.
 
--- a structure in its scope, whose members are looked at
-pub record IsStructureIn (trees : List Tree) (scope : Scope) (s : Structure) : Type 0 where
-  pub among : There (wide_scopes trees) scope
-  pub there : There (declared_in trees scope) (structure s)
-  pub declared : There (scoped_declarations trees) (made_in scope (structure s))
-  pub is_own : is_external s ≡ false
-
 module _ (trees : List Tree) (accepted : IsAccepted trees) where
   abbrev pub IsIn : Machine → KnownType → Type 0
-  IsIn m (structured scope s) = IsStructureIn trees scope s × (fields_scope m scope ≡ scope)
-  IsIn m (enumerated scope text members) = fields_scope m scope ≡ scope
-  IsIn m (built_in b) = Unit {0}
+  IsIn m t = IsTypeIn trees m t
 
   type_is_in : (m : Machine) (scope : Scope) → fields_scope m scope ≡ scope → There (wide_scopes trees) scope → (d : Declaration) → There (declared_in trees scope) d → There (scoped_declarations trees) (made_in scope d)
       → (t : KnownType) → declared_type scope d ≡ Some t → IsIn m t

@@ -3,4 +3,5 @@ pub mod CallRows
 pub mod NamedValues
 pub mod FieldsOf
 pub mod StateKinds
+pub mod TypedMeaning
 pub mod Prelude
