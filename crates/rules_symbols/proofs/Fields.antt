@@ -21,9 +21,9 @@ use Rattle.slicc_ast.specs.declared.tree.span.Span.{Span}
 use Rattle.slicc_plan.specs.declared.built_in.BuiltInType.{BuiltInType}
 use Rattle.slicc_plan.specs.declared.built_in.BuiltInType.TheVariants.{Request}
 use Rattle.slicc_plan.specs.AllRules.{IsAccepted}
-use Rattle.slicc_plan.specs.BuiltIn.{NamedType, built_in_type, request_fields}
+use Rattle.slicc_plan.specs.BuiltIn.{NamedType, built_in_type, request_fields, nature_of}
 use Rattle.slicc_plan.specs.Declarations.{Declaration, enumeration, states, structure, member, Scope, everywhere, within, declared_in, first_named, global_declarations, is_external, is_named, machine_declarations, machine_names, machines_of, wide_scopes}
-use Rattle.slicc_plan.specs.ExpressionTypes.{field_declared, fields_scope}
+use Rattle.slicc_plan.specs.ExpressionTypes.{field_declared, field_in, fields_scope, request_field}
 use Rattle.slicc_plan.specs.FieldTypes.{FieldIn, all_fields, field_of, fields_of, fields_within, may_be_field, no_field_type, refused_field, refused_for}
 use Rattle.slicc_plan.specs.Lawful.{HasNumberedTypes}
 use Rattle.slicc_plan.specs.Meanings.{Meaning, value, unknown, is_value, value_of_type}
@@ -40,7 +40,7 @@ use Rattle.slicc_plan.proofs.There.{There, all_there, found_passes, get_right, i
 use Rattle.slicc_plan.proofs.Types.{as_many, each_structure, structure_stands}
 use Rattle.rules_symbols.specs.FieldsOf.{HasFieldsOf}
 use Rattle.rules_symbols.specs.Fitting.{IsOfKind}
-use Rattle.rules_symbols.specs.TypedMeaning.{IsStructureIn, IsTypeIn}
+use Rattle.rules_symbols.specs.TypedMeaning.{IsStructureIn, IsTypeIn, IsTyped}
 use Rattle.rules_symbols.proofs.Lists.{every_there, find_position, position_cons, position_mapped, position_some, short_position}
 use Rattle.rules_symbols.proofs.Parameters.{machine_scope, none_refused, type_known}
 use Rattle.rules_symbols.proofs.ValueKinds.{global_kind_there, in_protocol, kind_there}
@@ -302,3 +302,44 @@ module _ (trees : List Tree) (accepted : IsAccepted trees) where
     own_fields_stand few s there own n number =
         fields_of_structure few (within m) s
         (record { among = machine_scope trees accepted k m at; there = there; declared = in_machine trees m (structure s) (machine_there (global_declarations trees) m (k, at)) there; is_own = own }) refl n number
+
+    -- What a body finds under a field's name.
+
+    type_of_field : (scope : Scope) → fields_scope m scope ≡ scope → (text : List ℕ) (t : KnownType) → type_in trees scope text ≡ Some t → IsTypeIn trees m t
+    type_of_field everywhere own text t is = global_is_in text t is
+    type_of_field (within n) own text t is = let same : within n ≡ within m = sym own in named_is_in text t (ap (λ (x : Scope). type_in trees x text) (sym same) ∙ is)
+
+    field_of_structure : (scope : Scope) (s : Structure) → IsStructureIn trees scope s → fields_scope m scope ≡ scope → (text : List ℕ) (meaning : Meaning) → field_in trees m (structured scope s) text ≡ Some meaning → IsTyped trees m meaning
+    field_of_structure scope s inside own text meaning is = by (first_named text (map member s.members)) refl is
+      where
+        by : (o : Option Declaration) → first_named text (map member s.members) ≡ o → field_declared trees m (fields_scope m scope) o ≡ Some meaning → IsTyped trees m meaning
+        by (Some (member (Field kind called attributes span))) found same =
+            let in_list = member_there s.members (Field kind called attributes span) (there_found (is_named text) (map member s.members) (member (Field kind called attributes span)) found) in
+            let typed = field_typed scope s inside own kind called attributes span in_list in
+            let both : Some meaning ≡ Some (value typed.type) =
+            sym same ∙ ap (λ (x : Scope). Some (value_of_type m (type_in trees x kind.text))) own ∙ ap (λ (o : Option KnownType). Some (value_of_type m o)) typed.found ∙ ap (λ b. Some (cond b (value typed.type) unknown)) typed.valued in
+            let means : meaning ≡ value typed.type = cc both in
+            subst (λ (x : Meaning). IsTyped trees m x) (sym means) (typed.valued, type_of_field scope own kind.text typed.type typed.found, (typed.its_kind, typed.has_kind))
+        by _ found same = absurd (cc same)
+
+    field_of_request : (text : List ℕ) (meaning : Meaning) → request_field text ≡ Some meaning → IsTyped trees m meaning
+    field_of_request text meaning is = by (find (λ (f : NamedType). bytes_eq f.name text) request_fields) refl is
+      where
+        some_kind : (o : Option Kind) → is_some o ≡ true → (kk : Kind) × (o ≡ Some kk)
+        some_kind None none = absurd (cc none)
+        some_kind (Some kk) some = (kk, refl)
+
+        by : (o : Option NamedType) → find (λ (f : NamedType). bytes_eq f.name text) request_fields ≡ o → option_map (λ (f : NamedType). value (built_in f.meaning)) o ≡ Some meaning → IsTyped trees m meaning
+        by None found same = absurd (cc same)
+        by (Some f) found same =
+            let means : value (built_in f.meaning) ≡ meaning = cc same in
+            let there = there_found (λ (g : NamedType). bytes_eq g.name text) request_fields f found in
+            let may = every_there (λ (g : NamedType). may_be_field (nature_of g.meaning)) request_fields f refl there in
+            let kinded = every_there (λ (g : NamedType). is_some (built_in_kind g.meaning)) request_fields f refl there in
+            subst (λ (x : Meaning). IsTyped trees m x) means (may, tt, some_kind (built_in_kind f.meaning) kinded)
+
+    pub field_meaning : (t : KnownType) → IsTypeIn trees m t → (text : List ℕ) (meaning : Meaning) → field_in trees m t text ≡ Some meaning → IsTyped trees m meaning
+    field_meaning (structured scope s) inside text meaning is = field_of_structure scope s inside.0 inside.1 text meaning is
+    field_meaning (built_in Request) inside text meaning is = field_of_request text meaning is
+    field_meaning (built_in _) inside text meaning is = absurd (cc is)
+    field_meaning (enumerated scope name members) inside text meaning is = absurd (cc is)

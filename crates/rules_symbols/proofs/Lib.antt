@@ -16,3 +16,4 @@ pub mod Members
 pub mod FunctionKinds
 pub mod StateKinds
 pub mod StatementForms
+pub mod TypedExpressions

@@ -63,7 +63,7 @@ in_protocol trees d there = there_flat made_with_its_own (global_declarations tr
 -- Structures of lines.
 
 -- a structure that is found among a machine's own is declared by it, and isn't external
-own_there : (m : Machine) (p : Structure → Bool) (s : Structure) → find p (own_structures m) ≡ Some s → There (machine_declarations m) (structure s) × (is_external s ≡ false)
+pub own_there : (m : Machine) (p : Structure → Bool) (s : Structure) → find p (own_structures m) ≡ Some s → There (machine_declarations m) (structure s) × (is_external s ≡ false)
 own_there m p s found =
     let from = flat_there structure_in (machine_declarations m) s (there_found p (own_structures m) s found) in by from.0 from.1 from.2
   where
@@ -116,7 +116,7 @@ line_of_three m t is =
         inl (line_of_one m t (tbe_structure m) last)
 
 module _ (trees : List Tree) (k : ℕ) (m : Machine) (at : slice_get (machines_of trees) k ≡ Some m) where
-  own_declared_there : (d : Declaration) → There (machine_declarations m) d → There (scoped_declarations trees) (made_in (within m) d)
+  pub own_declared_there : (d : Declaration) → There (machine_declarations m) d → There (scoped_declarations trees) (made_in (within m) d)
   own_declared_there d there = in_machine trees m d (machine_there (global_declarations trees) m (k, at)) there
 
   -- each type of lines has a number and a kind
@@ -164,7 +164,7 @@ module _ (trees : List Tree) (k : ℕ) (m : Machine) (at : slice_get (machines_o
 
 -- Values of built-in types.
 
-built_in_valued : (b : BuiltInType) → may_be_field (nature_of b) ≡ true → (kk : Kind) × (built_in_kind b ≡ Some kk)
+pub built_in_valued : (b : BuiltInType) → may_be_field (nature_of b) ≡ true → (kk : Kind) × (built_in_kind b ≡ Some kk)
 built_in_valued Int is = (kind.Int, refl)
 built_in_valued Cycles is = (kind.Int, refl)
 built_in_valued Tick is = (kind.Int, refl)

@@ -173,7 +173,7 @@ structure_kind trees m scope s k is = by (structure_number trees (structured sco
     by (Some n) is = its_reference m scope s n k is
 
 -- only structures are types of lines
-no_other_line : (m : Machine) (ss : List Structure) (t : KnownType) → ((scope : Scope) (s : Structure) → t ≡ structured scope s → ⊥) → is_line_of m ss t ≡ false
+pub no_other_line : (m : Machine) (ss : List Structure) (t : KnownType) → ((scope : Scope) (s : Structure) → t ≡ structured scope s → ⊥) → is_line_of m ss t ≡ false
 no_other_line m [] t not = refl
 no_other_line m (s ∷ ss) (built_in b) not = no_other_line m ss (built_in b) not
 no_other_line m (s ∷ ss) (enumerated scope text members) not = no_other_line m ss (enumerated scope text members) not
