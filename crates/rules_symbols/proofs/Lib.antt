@@ -17,3 +17,4 @@ pub mod FunctionKinds
 pub mod StateKinds
 pub mod StatementForms
 pub mod TypedExpressions
+pub mod TypedEnvironments

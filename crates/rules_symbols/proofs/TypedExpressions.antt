@@ -227,7 +227,7 @@ three_lines m t a b c first second third =
     ∙ ap (λ v. (v || is_line_of m (listed (directory_structure m)) t) || is_line_of m (listed (tbe_structure m)) t) first
     ∙ ap (λ v. (a || v) || is_line_of m (listed (tbe_structure m)) t) second ∙ ap (λ v. (a || b) || v) third
 
-entry_line : (m : Machine) (s : Structure) → entry_structure m ≡ Some s → is_line m (structured (within m) s) ≡ true
+pub entry_line : (m : Machine) (s : Structure) → entry_structure m ≡ Some s → is_line m (structured (within m) s) ≡ true
 entry_line m s is = three_lines m (structured (within m) s) true _ _ (own_line m (entry_structure m) s is) refl refl
 
 or_true : (a b : Bool) → ((a || true) || b) ≡ true
@@ -244,7 +244,7 @@ directory_line m s is =
     three_lines m t (is_line_of m (listed (entry_structure m)) t) true (is_line_of m (listed (tbe_structure m)) t) refl (own_line m (directory_structure m) s is) refl
     ∙ or_true (is_line_of m (listed (entry_structure m)) t) (is_line_of m (listed (tbe_structure m)) t)
 
-tbe_line_is : (m : Machine) (s : Structure) → tbe_structure m ≡ Some s → is_line m (structured (within m) s) ≡ true
+pub tbe_line_is : (m : Machine) (s : Structure) → tbe_structure m ≡ Some s → is_line m (structured (within m) s) ≡ true
 tbe_line_is m s is =
     let t : KnownType = structured (within m) s in
     let front = is_line_of m (listed (entry_structure m)) t || is_line_of m (listed (directory_structure m)) t in
@@ -257,11 +257,11 @@ module _ (k : ℕ) (env : Environment) (h : IsTypedIn k env) where
   abbrev T : Meaning → Type 0
   T meaning = IsTyped env.trees env.machine meaning
 
-  type_value : (text : List ℕ) (t : KnownType) → type_in env.trees (within env.machine) text ≡ Some t → is_value env.machine t ≡ true → T (value t)
+  pub type_value : (text : List ℕ) (t : KnownType) → type_in env.trees (within env.machine) text ≡ Some t → is_value env.machine t ≡ true → T (value t)
   type_value text t is valued =
       (valued, named_is_in env.trees h.accepted k env.machine h.machine text t is, kind_there env.trees k env.machine h.machine text t is valued)
 
-  value_typed : (text : List ℕ) (t : KnownType) → type_in env.trees (within env.machine) text ≡ Some t → is_value env.machine t ≡ true → T (value_of_type env.machine (Some t))
+  pub value_typed : (text : List ℕ) (t : KnownType) → type_in env.trees (within env.machine) text ≡ Some t → is_value env.machine t ≡ true → T (value_of_type env.machine (Some t))
   value_typed text t is valued = subst (λ b. T (cond b (value t) unknown)) (sym valued) (type_value text t is valued)
 
   object_typed : (text : List ℕ) (t : KnownType) → type_in env.trees (within env.machine) text ≡ Some t → is_object_type env.machine t ≡ true → T (object_of_type env.machine (Some t))
@@ -421,7 +421,7 @@ module _ (k : ℕ) (env : Environment) (h : IsTypedIn k env) where
         line_kind_there env.trees k env.machine h.machine (within env.machine) s line_so,
       )
 
-  line_of : (p : Structure → Bool) (o : Option Structure) → find p (own_structures env.machine) ≡ o → ((s : Structure) → o ≡ Some s → is_line env.machine (structured (within env.machine) s) ≡ true) → T (line_of_structure env.machine o)
+  pub line_of : (p : Structure → Bool) (o : Option Structure) → find p (own_structures env.machine) ≡ o → ((s : Structure) → o ≡ Some s → is_line env.machine (structured (within env.machine) s) ≡ true) → T (line_of_structure env.machine o)
   line_of p None found each = tt
   line_of p (Some s) found each = line_typed s p found (each s refl)
 
