@@ -1,7 +1,6 @@
 -- The functions of a machine: a function with a body is found by its name, with the kinds of its formals and of what it answers.
 use Rattle.std.specs.Prelude.{◌⊎◌}
-use Rattle.std.proofs.Common.{◌≡◌, ◌∙◌, ◌≤◌, ◌+◌, ◌++◌, ℕ, zero, suc, Bool, true, false, cond, ◌||◌, Option, None, Some, List, [], ◌∷◌, flat_map, length, map, position, slice_get, refl, sym, ap, subst, arith, option_and_then, inl, inr}
-use Rattle.std.specs.Option.{option_map}
+use Rattle.std.proofs.Common.{◌≡◌, ◌∙◌, ◌≤◌, ◌++◌, ℕ, Bool, true, false, ◌||◌, Option, None, Some, List, [], ◌∷◌, flat_map, length, map, position, slice_get, refl, sym, ap, subst, arith, option_and_then, inl, inr}
 use Rattle.std.specs.Str.{bytes_eq}
 use Rattle.ruby_value.specs.declared.kind.Kind.{Kind}
 use Rattle.ruby_symbols.specs.declared.machine.FunctionSymbol.{FunctionSymbol}
@@ -16,7 +15,6 @@ use Rattle.slicc_ast.specs.declared.tree.item.Tree.{Tree}
 use Rattle.slicc_ast.specs.declared.tree.machine.Decl.{Decl}
 use Rattle.slicc_ast.specs.declared.tree.machine.Decl.TheVariants as decl
 use Rattle.slicc_ast.specs.declared.tree.machine.Machine.{Machine}
-use Rattle.slicc_ast.specs.declared.tree.machine.Parameter.{Parameter}
 use Rattle.slicc_ast.specs.declared.tree.name.Name.{Name}
 use Rattle.slicc_ast.specs.declared.tree.name.TypeName.{TypeName}
 use Rattle.slicc_ast.specs.declared.tree.span.Span.{Span}
@@ -24,22 +22,22 @@ use Rattle.slicc_ast.specs.declared.tree.statement.Block.{Block}
 use Rattle.slicc_plan.specs.declared.built_in.BuiltInType.TheVariants.{Void}
 use Rattle.slicc_plan.specs.AllRules.{IsAccepted}
 use Rattle.slicc_plan.specs.BrokenBodies.{function_environment, wrong_formal, wrong_type_in}
-use Rattle.slicc_plan.specs.Declarations.{Declaration, parameter, function, within, first_named, is_named, machine_declarations, machines_of, named_declarations}
+use Rattle.slicc_plan.specs.Declarations.{parameter, function, within, first_named, is_named, machine_declarations, machines_of, named_declarations}
 use Rattle.slicc_plan.specs.JudgedStatements.{body_judged}
 use Rattle.slicc_plan.specs.Meanings.{is_answer_type, is_value}
-use Rattle.slicc_plan.specs.SymbolsOfMachines.{formal_symbol, function_symbol, function_symbols, function_with_body, kind_in, machine_symbols, numbered_from}
+use Rattle.slicc_plan.specs.SymbolsOfMachines.{formal_symbol, function_symbol, function_symbols, function_with_body, kind_in, machine_symbols}
 use Rattle.slicc_plan.specs.TypeNumbers.{kind_or_bool, value_kind}
 use Rattle.slicc_plan.specs.Types.{KnownType, built_in, is_built_in, type_in}
 use Rattle.slicc_plan.specs.UnknownTypes.{formal_use, use_of}
 use Rattle.slicc_plan.proofs.Counted.{machine_has_numbers}
 use Rattle.slicc_plan.proofs.Room.{left_none, none_at, right_none}
-use Rattle.slicc_plan.proofs.There.{There, found_passes, there_first, there_found, there_later, there_mapped}
+use Rattle.slicc_plan.proofs.There.{There, found_passes, there_found, there_later, there_mapped}
 use Rattle.rules_symbols.proofs.Lists.{find_none, flat_there, short_position, there_append, there_map}
 use Rattle.rules_symbols.proofs.Made.{numbered_none, numbered_some, only_there}
 use Rattle.rules_symbols.proofs.Parameters.{machine_scope, right_type, type_known, unbroken}
 use Rattle.rules_symbols.proofs.Standing.{is_type}
 use Rattle.rules_symbols.proofs.ValueKinds.{kind_there}
-use Rattle.rules_symbols.proofs.ValueNames.{declared_there, is_named_decl, one_written, written_as, written_there}
+use Rattle.rules_symbols.proofs.ValueNames.{declared_there, is_named_decl, one_written, written_there}
 
 module _ (trees : List Tree) (m : Machine) (text : List ℕ) where
   function_text : (j : ℕ) (x : Decl) (y : FunctionSymbol) → There (function_symbol trees m j x) y → bytes_eq y.name text ≡ is_named_decl text x

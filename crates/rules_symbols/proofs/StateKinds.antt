@@ -6,19 +6,13 @@ use Rattle.std.proofs.lemmas.Bool.{and_parts}
 use Rattle.std.proofs.lemmas.List.{map-append}
 use Rattle.ruby_value.specs.declared.kind.Kind.{Kind}
 use Rattle.ruby_value.specs.declared.kind.Kind.TheVariants as kind
-use Rattle.ruby_symbols.specs.declared.machine.FunctionSymbol.{FunctionSymbol}
-use Rattle.ruby_symbols.specs.declared.machine.FormalSymbol.{FormalSymbol}
-use Rattle.ruby_symbols.specs.declared.machine.MachineSymbols.{MachineSymbols}
 use Rattle.ruby_symbols.specs.declared.states.StateArgument.{StateArgument}
 use Rattle.ruby_symbols.specs.declared.states.StateArgument.TheVariants.{Tbe, Entry, Address as AddressArgument, State as StateOf}
-use Rattle.ruby_symbols.specs.declared.symbols.Symbols.{Symbols}
 use Rattle.ruby_symbols.specs.Kinds.{kind_of_enumeration, kind_of_reference}
-use Rattle.ruby_symbols.specs.Names.{function_named}
 use Rattle.ruby_symbols.specs.States.{get_state_arguments, set_permission_arguments, set_state_arguments, where_there}
 use Rattle.slicc_ast.specs.declared.tree.declaration.Formal.{Formal}
 use Rattle.slicc_ast.specs.declared.tree.declaration.Formals.{Formals}
-use Rattle.slicc_ast.specs.declared.tree.declaration.Function.{Function}
-use Rattle.slicc_ast.specs.declared.tree.declaration.Function.TheVariants.{Plain, Skipped}
+use Rattle.slicc_ast.specs.declared.tree.declaration.Function.TheVariants.{Plain}
 use Rattle.slicc_ast.specs.declared.tree.declaration.Pairs.{Pairs}
 use Rattle.slicc_ast.specs.declared.tree.declaration.State.{State}
 use Rattle.slicc_ast.specs.declared.tree.declaration.Structure.{Structure}
@@ -29,26 +23,24 @@ use Rattle.slicc_ast.specs.declared.tree.name.TypeName.{TypeName}
 use Rattle.slicc_ast.specs.declared.tree.span.Span.{Span}
 use Rattle.slicc_ast.specs.declared.tree.statement.Block.{Block}
 use Rattle.slicc_plan.specs.declared.broken.Broken.{Broken}
-use Rattle.slicc_plan.specs.declared.built_in.BuiltInType.{BuiltInType}
 use Rattle.slicc_plan.specs.declared.built_in.BuiltInType.TheVariants.{Address, Void}
 use Rattle.slicc_plan.specs.AllRules.{IsAccepted}
 use Rattle.slicc_plan.specs.Buffers.{is_same_known, is_same_scope}
-use Rattle.slicc_plan.specs.Declarations.{Declaration, function, states, Scope, everywhere, within, first_named, is_named, machine_declarations, machines_of}
-use Rattle.slicc_plan.specs.ExpressionTypes.{fields_scope}
+use Rattle.slicc_plan.specs.Declarations.{Declaration, function, states, everywhere, within, first_named, is_named, machine_declarations, machines_of}
 use Rattle.slicc_plan.specs.Limits.{is_states}
 use Rattle.slicc_plan.specs.Machines.{entry_structure, is_entry, is_tbe, own_structures, tbe_structure}
 use Rattle.slicc_plan.specs.Machines as plan
 use Rattle.slicc_plan.specs.StateFunctions.{Wanted, built_in_type, line, own_state, alone, are_wanted, is_own_states, is_own_structure, is_wanted, line_where, state_functions_in, taken_to_permit, taken_to_read, taken_to_write, told_at, unlike}
 use Rattle.slicc_plan.specs.SymbolsOf.{symbols_of}
-use Rattle.slicc_plan.specs.SymbolsOfMachines.{formal_symbol, kind_in, line_number, machine_symbols, number_of_found}
-use Rattle.slicc_plan.specs.TypeNumbers.{built_in_kind, declared_number, default_member, kind_or_bool, no_structure, reference_kind, structure_number, value_kind}
-use Rattle.slicc_plan.specs.Types.{KnownType, built_in, enumerated, structured, declared_type, is_built_in, type_in}
+use Rattle.slicc_plan.specs.SymbolsOfMachines.{kind_in, line_number, machine_symbols, number_of_found}
+use Rattle.slicc_plan.specs.TypeNumbers.{built_in_kind, declared_number, default_member, no_structure, reference_kind, value_kind}
+use Rattle.slicc_plan.specs.Types.{KnownType, built_in, enumerated, structured, type_in}
 use Rattle.slicc_plan.proofs.Machines.{none_in_one}
 use Rattle.slicc_plan.proofs.MachinesKept.{machines_kept}
 use Rattle.slicc_plan.proofs.Room.{left_none, right_none}
 use Rattle.slicc_plan.proofs.There.{found_passes}
 use Rattle.rules_symbols.specs.StateKinds.{argument_kind}
-use Rattle.rules_symbols.proofs.Fields.{IsIn, named_is_in}
+use Rattle.rules_symbols.proofs.Fields.{named_is_in}
 use Rattle.rules_symbols.proofs.Owners.{text_turned}
 use Rattle.rules_symbols.proofs.Standing.{is_type}
 use Rattle.rules_symbols.proofs.TypeKinds.{reference_found}

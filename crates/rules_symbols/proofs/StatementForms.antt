@@ -1,18 +1,18 @@
 -- What is left of a statement in which nothing is broken: where its form is allowed, what its names stand for and what its parts fit.
-use Rattle.std.proofs.Common.{◌≡◌, ◌∙◌, ◌++◌, ◌||◌, ◌&&◌, ℕ, Bool, true, false, cond, Option, None, Some, List, [], ◌∷◌, length, refl, sym, ap}
-use Rattle.std.specs.Prelude.{nat_le, ◌+◌, ◌≤◌}
+use Rattle.std.proofs.Common.{◌≡◌, ◌∙◌, ◌++◌, ◌||◌, ◌&&◌, ℕ, true, cond, Option, None, Some, List, [], ◌∷◌, length, refl, sym, ap}
+use Rattle.std.specs.Prelude.{nat_le, ◌+◌}
 use Rattle.std.proofs.lemmas.Bool.{and_parts}
 use Rattle.slicc_ast.specs.declared.tree.expression.Expr.{Expr}
 use Rattle.slicc_ast.specs.declared.tree.name.Name.{Name}
 use Rattle.slicc_ast.specs.declared.tree.name.TypeName.{TypeName}
 use Rattle.slicc_ast.specs.declared.tree.span.Span.{Span}
 use Rattle.slicc_plan.specs.declared.broken.Broken.{Broken}
-use Rattle.slicc_plan.specs.declared.broken.Rule.TheVariants.{NotAllowedHere, NotThere, NotWritable, WrongCount, WrongType}
+use Rattle.slicc_plan.specs.declared.broken.Rule.TheVariants.{NotAllowedHere, NotWritable, WrongCount, WrongType}
 use Rattle.slicc_plan.specs.declared.built_in.BuiltInType.TheVariants.{Address, Int, TbeTable}
 use Rattle.slicc_plan.specs.Buffers.{is_same_known}
-use Rattle.slicc_plan.specs.BuiltInCalls.{Allowed, anywhere, in_actions, in_ports, Call}
-use Rattle.slicc_plan.specs.CallTypes.{Given, Typed, built_in_call, is_told, may_write, not_writable, wanted_by, wrong_argument, wrong_arguments, wrong_change, wrong_count}
-use Rattle.slicc_plan.specs.Environment.{BodySort, Bound, Environment, of_action, of_function, of_port, is_allowed, meaning_named, no_type, type_named, type_unless, value_named, wrong_meaning, wrong_type_name, wrong_value_name}
+use Rattle.slicc_plan.specs.BuiltInCalls.{in_actions, in_ports, Call}
+use Rattle.slicc_plan.specs.CallTypes.{Given, Typed, built_in_call, is_told, may_write, not_writable, wanted_by, wrong_arguments, wrong_change, wrong_count}
+use Rattle.slicc_plan.specs.Environment.{BodySort, Bound, Environment, of_action, of_function, of_port, is_allowed, meaning_named, no_type, type_named, value_named, wrong_meaning, wrong_type_name, wrong_value_name}
 use Rattle.slicc_plan.specs.ExpressionTypes.{broken_where, span_of, typed}
 use Rattle.slicc_plan.specs.JudgedStatements.{assigned, broken_latency, checked, declared, enqueued, in_type, is_peek_allowed, local_meaning, out_type, peeked, stalled, wrong_local_type, wrong_message_type}
 use Rattle.slicc_plan.specs.Meanings.{Meaning, value, unknown, Wanted, one_of, table_of, any_in_port, any_out_port, fits, is_value, like_it, of_built_in, unfit, unless, value_of_type}

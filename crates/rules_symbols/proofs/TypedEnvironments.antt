@@ -1,5 +1,5 @@
 -- The names of bodies stand for things that are known: as a body begins, after a declaration, and in the blocks of messages.
-use Rattle.std.proofs.Common.{◌≡◌, ◌∙◌, ◌++◌, ℕ, Bool, true, false, cond, Option, None, Some, List, [], ◌∷◌, All, flat_map, map, slice_get, refl, sym, ap, subst, codes}
+use Rattle.std.proofs.Common.{◌≡◌, ◌++◌, ℕ, Bool, Option, None, Some, List, [], ◌∷◌, All, slice_get, refl, sym, subst, codes}
 use Rattle.std.proofs.lemmas.List.Elements.{All-append, All-cons, All-nil}
 use Rattle.ruby_value.specs.declared.kind.Kind.TheVariants as kind
 use Rattle.slicc_ast.specs.declared.tree.declaration.Formal.{Formal}
@@ -16,12 +16,12 @@ use Rattle.slicc_ast.specs.declared.tree.span.Span.{Span}
 use Rattle.slicc_ast.specs.declared.tree.statement.Block.{Block}
 use Rattle.slicc_plan.specs.declared.built_in.BuiltInType.TheVariants.{Address}
 use Rattle.slicc_plan.specs.AllRules.{IsAccepted}
-use Rattle.slicc_plan.specs.BrokenBodies.{action_environment, environment, formal_name, formal_names, function_environment, port_environment}
-use Rattle.slicc_plan.specs.Declarations.{Declaration, function, within, machine_declarations, machines_of}
-use Rattle.slicc_plan.specs.Environment.{BodySort, Bound, Environment, action_names, binding, fixed, line_name, local_name, meaning_named, meaning_of_found, value_named}
+use Rattle.slicc_plan.specs.BrokenBodies.{action_environment, formal_name, formal_names, function_environment, port_environment}
+use Rattle.slicc_plan.specs.Declarations.{function, within, machine_declarations, machines_of}
+use Rattle.slicc_plan.specs.Environment.{Bound, Environment, binding, fixed, line_name, local_name, meaning_named, meaning_of_found, value_named}
 use Rattle.slicc_plan.specs.JudgedStatements.{declared, enqueued, in_enqueue, in_peek, in_type, local_meaning, out_type, peeked}
-use Rattle.slicc_plan.specs.Machines.{entry_structure, is_entry, is_tbe, own_structures, tbe_structure}
-use Rattle.slicc_plan.specs.Meanings.{Meaning, value, in_port, out_port, any_in_port, any_out_port, fits, incoming_of_type, line_of_structure, outgoing_of_type, value_of_type}
+use Rattle.slicc_plan.specs.Machines.{entry_structure, is_entry, is_tbe, tbe_structure}
+use Rattle.slicc_plan.specs.Meanings.{Meaning, value, in_port, out_port, incoming_of_type, line_of_structure, outgoing_of_type, value_of_type}
 use Rattle.slicc_plan.specs.Types.{KnownType, built_in, type_in}
 use Rattle.slicc_plan.proofs.There.{There, there_first, there_later}
 use Rattle.rules_symbols.specs.Fitting.{IsInPort, IsOutPort}

@@ -1,20 +1,16 @@
 -- Typing: in a body of an accepted protocol an expression in which nothing is broken stands for something that is known. One induction
 -- over trees; the helpers before it take no trees.
-use Rattle.std.proofs.Common.{◌≡◌, ◌∙◌, ◌++◌, ◌||◌, ◌&&◌, ◌==◌, ℕ, zero, suc, Bool, true, false, cond, Option, None, Some, List, [], ◌∷◌, All, eqb-true, find, flat_map, map, slice_get, refl, sym, ap, subst, option_and_then, inl, inr, codes}
-use Rattle.std.specs.Prelude.{◌⊎◌, is_some}
+use Rattle.std.proofs.Common.{◌≡◌, ◌∙◌, ◌++◌, ◌||◌, ℕ, Bool, true, false, cond, Option, None, Some, List, [], ◌∷◌, find, flat_map, refl, sym, ap, subst, option_and_then, codes}
 use Rattle.std.specs.Option.{option_map, option_or}
 use Rattle.std.specs.Str.{bytes_eq}
-use Rattle.std.proofs.lemmas.Bool.{and_parts}
 use Rattle.std.proofs.lemmas.List.Folds.{list_any-append}
 use Rattle.ruby_value.specs.declared.kind.Kind.{Kind}
 use Rattle.ruby_value.specs.declared.kind.Kind.TheVariants as kind
-use Rattle.slicc_ast.specs.declared.tree.declaration.Formal.{Formal}
-use Rattle.slicc_ast.specs.declared.tree.declaration.Function.{Function}
 use Rattle.slicc_ast.specs.declared.tree.declaration.Function.TheVariants.{Plain, Skipped}
 use Rattle.slicc_ast.specs.declared.tree.declaration.Structure.{Structure}
-use Rattle.slicc_ast.specs.declared.tree.expression.Expr.{Expr, Number, True, False, Nothing, Variable, Member, Call', New, Row_of-Expr, Row_of-Operand, end_of-Operand, more_of-Operand, Row_of-Suffix, end_of-Suffix, more_of-Suffix}
+use Rattle.slicc_ast.specs.declared.tree.expression.Expr.{Expr, Number, True, False, Nothing, Variable, Member, Call', New, Row_of-Operand, end_of-Operand, more_of-Operand, Row_of-Suffix, end_of-Suffix, more_of-Suffix}
 use Rattle.slicc_ast.specs.declared.tree.expression.Operator.{Operator}
-use Rattle.slicc_ast.specs.declared.tree.expression.Operator.TheVariants.{Or, And, Equal, Unequal, Less, LessOrEqual, Greater, GreaterOrEqual, Plus, Minus, Times}
+use Rattle.slicc_ast.specs.declared.tree.expression.Operator.TheVariants.{Or, And, Equal, Unequal, Plus, Minus, Times}
 use Rattle.slicc_ast.specs.declared.tree.expression.Suffix.{Suffix, Field, Method', Index}
 use Rattle.slicc_ast.specs.declared.tree.item.Tree.{Tree}
 use Rattle.slicc_ast.specs.declared.tree.machine.Machine.{Machine}
@@ -23,36 +19,34 @@ use Rattle.slicc_ast.specs.declared.tree.name.TypeName.{TypeName}
 use Rattle.slicc_ast.specs.declared.tree.span.Span.{Span}
 use Rattle.slicc_ast.specs.Prelude.{Operation', Not', Negate', Postfix', IsValid', IsInvalid', Cast', Group'}
 use Rattle.slicc_plan.specs.declared.broken.Broken.{Broken}
-use Rattle.slicc_plan.specs.declared.broken.Rule.{Rule}
-use Rattle.slicc_plan.specs.declared.broken.Rule.TheVariants.{NotThere, NotAllowedHere, WrongType}
+use Rattle.slicc_plan.specs.declared.broken.Rule.TheVariants.{NotThere, WrongType}
 use Rattle.slicc_plan.specs.declared.built_in.BuiltInType.{BuiltInType}
-use Rattle.slicc_plan.specs.declared.built_in.BuiltInType.TheVariants.{AbstractEntry, AccessPermission, Buffer, Int, MachineId, Void, Bool as Boolean}
-use Rattle.slicc_plan.specs.AllRules.{IsAccepted}
+use Rattle.slicc_plan.specs.declared.built_in.BuiltInType.TheVariants.{AbstractEntry, Buffer, Int, MachineId, Void, Bool as Boolean}
 use Rattle.slicc_plan.specs.BrokenBodies.{broken_port, function_environment, port_environment, wrong_formal, wrong_type_in}
 use Rattle.slicc_plan.specs.Buffers.{is_same_known, listed}
 use Rattle.slicc_plan.specs.BuiltIn.{Nature, number, boolean, address, enumeration, other_value, structure, is_among, is_table_nature, members_of, nature_of}
 use Rattle.slicc_plan.specs.BuiltIn as natures
 use Rattle.slicc_plan.specs.BuiltInCalls.{Answer, no_value, answered, line, Call, Receiver, calls, permission_reading}
 use Rattle.slicc_plan.specs.BuiltInCalls as built
-use Rattle.slicc_plan.specs.CallTypes.{Given, Typed, Written, a_field, no_place, answer_of, broken_in, built_in_call, built_in_named, call_named, call_on, call_unless, declared_call, found_index, found_method, function_call, index_call, is_call_on, is_told, method_call, named_call, not_called, permission_named, plain, plain_call, receiver_of, structure_on}
-use Rattle.slicc_plan.specs.Declarations.{Declaration, structure as declared_structure, parameter, object, in_port, out_port, function, Scope, everywhere, within, first_named, is_named, machine_declarations, machine_names, machines_of}
+use Rattle.slicc_plan.specs.CallTypes.{Given, Typed, Written, a_field, no_place, answer_of, broken_in, built_in_named, call_named, call_on, call_unless, declared_call, found_index, found_method, index_call, is_call_on, is_told, method_call, named_call, permission_named, plain, plain_call, receiver_of}
+use Rattle.slicc_plan.specs.Declarations.{Declaration, structure as declared_structure, parameter, object, in_port, out_port, function, Scope, within, first_named, is_named, machine_declarations, machine_names, machines_of}
 use Rattle.slicc_plan.specs.Environment.{Bound, Environment, bound_as, declared_value, fixed, known_in_bodies, names_everywhere, type_named, type_unless, value_named, value_outside, value_within, wrong_type_name, wrong_value_name}
-use Rattle.slicc_plan.specs.ExpressionTypes.{arguments_typed, cast_meaning, cast_to, enumeration_members, field_in, field_of, fields_scope, found_field, found_value, from_operand, given_at, is_enumeration_nature, joined, member_among, member_of_type, member_type, operands_typed, operator_type, span_of, suffix_typed, suffixes_typed, typed, variable_type}
+use Rattle.slicc_plan.specs.ExpressionTypes.{arguments_typed, cast_to, enumeration_members, field_in, field_of, found_field, found_value, given_at, is_enumeration_nature, joined, member_among, member_of_type, member_type, operands_typed, operator_type, span_of, suffix_typed, suffixes_typed, typed, variable_type}
 use Rattle.slicc_plan.specs.FieldTypes.{may_be_field}
 use Rattle.slicc_plan.specs.JudgedStatements.{body_judged}
 use Rattle.slicc_plan.specs.Machines.{directory_structure, entry_structure, is_directory_entry, is_entry, is_tbe, own_structures, tbe_structure}
-use Rattle.slicc_plan.specs.Meanings.{is_line_of, line_structures, Meaning, value, no_line, bare_line, new_line, incoming, outgoing, table as table_meaning, in_port as in_port_meaning, out_port as out_port_meaning, nothing as nothing_meaning, unknown, Wanted, one_of, agree, answer_of_type, fits, is_answer_type, is_line, is_message, is_number, is_object_type, is_value, line_of_structure, message_type, object_of_type, table_of, told, unfit, unless, value_of_type}
-use Rattle.slicc_plan.specs.TypeNumbers.{built_in_kind, value_kind}
+use Rattle.slicc_plan.specs.Meanings.{is_line_of, line_structures, Meaning, value, no_line, bare_line, new_line, incoming, outgoing, table as table_meaning, in_port as in_port_meaning, out_port as out_port_meaning, nothing as nothing_meaning, unknown, one_of, agree, answer_of_type, fits, is_answer_type, is_line, is_message, is_number, is_object_type, is_value, line_of_structure, message_type, object_of_type, table_of, told, unfit, value_of_type}
+use Rattle.slicc_plan.specs.TypeNumbers.{built_in_kind}
 use Rattle.slicc_plan.specs.Types.{KnownType, built_in, enumerated, structured, is_built_in, nature_in, type_in}
 use Rattle.slicc_plan.specs.UnknownTypes.{use_of}
 use Rattle.slicc_plan.proofs.Room.{left_none, right_none}
-use Rattle.slicc_plan.proofs.There.{There, all_there, found_passes, there_found}
+use Rattle.slicc_plan.proofs.There.{There, all_there, there_found}
 use Rattle.rules_symbols.specs.Fitting.{IsLike, IsSure}
-use Rattle.rules_symbols.specs.TypedMeaning.{IsMessageType, IsStructureIn, IsTyped, IsTypedIn, IsTypeIn, IsValueType}
+use Rattle.rules_symbols.specs.TypedMeaning.{IsMessageType, IsTyped, IsTypedIn}
 use Rattle.rules_symbols.proofs.Fields.{field_meaning, named_is_in}
-use Rattle.rules_symbols.proofs.Lists.{every, every_there}
+use Rattle.rules_symbols.proofs.Lists.{every_there}
 use Rattle.rules_symbols.proofs.Parameters.{machine_scope, right_type, type_known, unbroken}
-use Rattle.rules_symbols.proofs.StatementForms.{called_is, type_name_is}
+use Rattle.rules_symbols.proofs.StatementForms.{type_name_is}
 use Rattle.rules_symbols.proofs.Types.{built_in_same, known_alike}
 use Rattle.rules_symbols.proofs.ValueKinds.{built_in_valued, kind_there, line_kind_there, own_declared_there, own_there, structure_itself, structure_turned}
 use Rattle.rules_symbols.proofs.WhatFits.{like_fits, no_other_line, untold}

@@ -4,3 +4,4 @@ pub use Rattle.rules_symbols.specs.CallRows.{argument_operand, call_number, give
 pub use Rattle.rules_symbols.specs.FieldsOf.{HasFieldsOf}
 pub use Rattle.rules_symbols.specs.NamedValues.{IsNamedValue, IsPortOf, IsReferenceOf, IsValueOf}
 pub use Rattle.rules_symbols.specs.StateKinds.{argument_kind}
+pub use Rattle.rules_symbols.specs.TypedMeaning.{IsMessageType, IsStructureIn, IsTyped, IsTypedIn, IsTypeIn, IsValueType}

@@ -1,6 +1,6 @@
 -- What an expression stands for in which nothing is broken: a value of a type that has values and a kind in the machine, a reference to
 -- nothing, a message, a table, a port with its messages, or nothing; never `new`, nor what isn't known.
-use Rattle.std.specs.Prelude.{ℕ, ◌≡◌, true, false, Option, None, Some, List, All, slice_get}
+use Rattle.std.specs.Prelude.{ℕ, ◌≡◌, true, false, None, Some, List, All, slice_get}
 use Rattle.ruby_value.specs.declared.kind.Kind.{Kind}
 use Rattle.slicc_ast.specs.declared.tree.declaration.Structure.{Structure}
 use Rattle.slicc_ast.specs.declared.tree.item.Tree.{Tree}

@@ -8,6 +8,7 @@ mod functions;
 mod kinds;
 mod named;
 mod parts_of_types;
+mod typing;
 
 pub use calls::calls_are_operations;
 pub use fitting::what_fits_has_the_kind;
@@ -17,3 +18,4 @@ pub use kinds::{
 };
 pub use named::{names_stand_for_what_is_declared, parameters_have_kinds, ports_are_on_buffers};
 pub use parts_of_types::{fields_have_kinds, members_have_numbers};
+pub use typing::{expressions_are_typed, names_of_bodies_are_typed};
