@@ -18,3 +18,5 @@ pub mod StateKinds
 pub mod StatementForms
 pub mod TypedExpressions
 pub mod TypedEnvironments
+pub mod TypedStatements
+pub mod TypedProtocols

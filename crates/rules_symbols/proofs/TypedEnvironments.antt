@@ -92,7 +92,7 @@ module _ (k : ℕ) (env : Environment) (h : IsTypedIn k env) where
       (subst (λ (x : Meaning). IsTyped env.trees env.machine x) (sym is.meaning) (type_value k env h kind.text is.type (type_in_of env kind.text is.type is.named) is.valued))
 
   -- what a name stands for is known
-  meaning_typed : (text : List ℕ) (meaning : Meaning) → meaning_named env text ≡ Some meaning → IsTyped env.trees env.machine meaning
+  pub meaning_typed : (text : List ℕ) (meaning : Meaning) → meaning_named env text ≡ Some meaning → IsTyped env.trees env.machine meaning
   meaning_typed text meaning is = by (value_named env text) refl is
     where
       by : (o : Option Bound) → value_named env text ≡ o → meaning_of_found o ≡ Some meaning → IsTyped env.trees env.machine meaning

@@ -4,4 +4,5 @@ pub mod NamedValues
 pub mod FieldsOf
 pub mod StateKinds
 pub mod TypedMeaning
+pub mod TypedBodies
 pub mod Prelude

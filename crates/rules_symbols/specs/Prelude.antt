@@ -5,3 +5,4 @@ pub use Rattle.rules_symbols.specs.FieldsOf.{HasFieldsOf}
 pub use Rattle.rules_symbols.specs.NamedValues.{IsNamedValue, IsPortOf, IsReferenceOf, IsValueOf}
 pub use Rattle.rules_symbols.specs.StateKinds.{argument_kind}
 pub use Rattle.rules_symbols.specs.TypedMeaning.{IsMessageType, IsStructureIn, IsTyped, IsTypedIn, IsTypeIn, IsValueType}
+pub use Rattle.rules_symbols.specs.TypedBodies.{AreTyped, AreTypedOthers, IsInPortNamed, IsOutPortNamed, IsTypedChoice, IsTypedIf, IsTypedLocal, IsTypedOtherwise, IsTypedPlace, IsTypedRow, IsTypedStatement, IsTypedWhere}

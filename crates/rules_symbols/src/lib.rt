@@ -18,4 +18,4 @@ pub use kinds::{
 };
 pub use named::{names_stand_for_what_is_declared, parameters_have_kinds, ports_are_on_buffers};
 pub use parts_of_types::{fields_have_kinds, members_have_numbers};
-pub use typing::{expressions_are_typed, names_of_bodies_are_typed};
+pub use typing::{bodies_are_typed, expressions_are_typed, names_of_bodies_are_typed};
