@@ -20,3 +20,4 @@ pub mod TypedExpressions
 pub mod TypedEnvironments
 pub mod TypedStatements
 pub mod TypedProtocols
+pub mod Arguments

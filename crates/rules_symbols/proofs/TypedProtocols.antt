@@ -1,5 +1,5 @@
 -- The bodies of an accepted protocol are typed.
-use Rattle.std.proofs.Common.{◌≡◌, ◌++◌, ℕ, None, Some, List, [], slice_get}
+use Rattle.std.proofs.Common.{◌≡◌, ℕ, Some, List, slice_get}
 use Rattle.slicc_ast.specs.declared.tree.declaration.Formals.{Formals}
 use Rattle.slicc_ast.specs.declared.tree.declaration.Function.TheVariants.{Plain}
 use Rattle.slicc_ast.specs.declared.tree.declaration.Pairs.{Pairs}
@@ -13,7 +13,7 @@ use Rattle.slicc_ast.specs.declared.tree.span.Span.{Span}
 use Rattle.slicc_ast.specs.declared.tree.statement.Block.{Block}
 use Rattle.slicc_plan.specs.AllRules.{IsAccepted}
 use Rattle.slicc_plan.specs.BrokenBodies.{action_environment, broken_port, function_environment, port_environment}
-use Rattle.slicc_plan.specs.Declarations.{Declaration, action, function, in_port, machine_declarations, machines_of}
+use Rattle.slicc_plan.specs.Declarations.{action, function, in_port, machine_declarations, machines_of}
 use Rattle.slicc_plan.specs.JudgedStatements.{body_judged}
 use Rattle.slicc_plan.proofs.Room.{right_none}
 use Rattle.slicc_plan.proofs.There.{There}

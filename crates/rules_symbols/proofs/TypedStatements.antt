@@ -1,8 +1,7 @@
 -- Typing of bodies, by one induction over statements.
-use Rattle.std.proofs.Common.{◌≡◌, ◌∙◌, ◌++◌, ◌||◌, ℕ, Bool, true, false, Option, None, Some, List, [], ◌∷◌, slice_get, refl, sym, ap, subst}
+use Rattle.std.proofs.Common.{◌≡◌, ◌∙◌, ◌++◌, ◌||◌, ℕ, Bool, true, false, Option, None, Some, List, [], ◌∷◌, refl, sym, ap}
 use Rattle.slicc_ast.specs.declared.tree.expression.Expr.{Expr}
 use Rattle.slicc_ast.specs.declared.tree.name.Name.{Name}
-use Rattle.slicc_ast.specs.declared.tree.name.TypeName.{TypeName}
 use Rattle.slicc_ast.specs.declared.tree.statement.If.{If, If', Held-If-otherwise, None', Some', Row_of-ElseIf, end_of-ElseIf, more_of-ElseIf}
 use Rattle.slicc_ast.specs.declared.tree.statement.Stmt.{Stmt, Declare, Assign, Evaluate, Return, If as IfStmt, Peek', Enqueue', StallAndWait, CheckAllocate, Error, Assert, Print, Row_of-Stmt, end_of-Stmt, more_of-Stmt}
 use Rattle.slicc_plan.specs.declared.built_in.BuiltInType.TheVariants.{Address, Bool as Boolean, Int, TbeTable}

@@ -5,4 +5,5 @@ pub mod FieldsOf
 pub mod StateKinds
 pub mod TypedMeaning
 pub mod TypedBodies
+pub mod CallArguments
 pub mod Prelude

@@ -6,3 +6,4 @@ pub use Rattle.rules_symbols.specs.NamedValues.{IsNamedValue, IsPortOf, IsRefere
 pub use Rattle.rules_symbols.specs.StateKinds.{argument_kind}
 pub use Rattle.rules_symbols.specs.TypedMeaning.{IsMessageType, IsStructureIn, IsTyped, IsTypedIn, IsTypeIn, IsValueType}
 pub use Rattle.rules_symbols.specs.TypedBodies.{AreTyped, AreTypedOthers, IsInPortNamed, IsOutPortNamed, IsTypedChoice, IsTypedIf, IsTypedLocal, IsTypedOtherwise, IsTypedPlace, IsTypedRow, IsTypedStatement, IsTypedWhere}
+pub use Rattle.rules_symbols.specs.CallArguments.{AreArguments, IsArgument, IsGiven, IsNewLine}

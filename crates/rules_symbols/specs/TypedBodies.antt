@@ -11,7 +11,7 @@ use Rattle.slicc_plan.specs.CallTypes.{may_write}
 use Rattle.slicc_plan.specs.Environment.{Environment, of_action, meaning_named, type_named}
 use Rattle.slicc_plan.specs.ExpressionTypes.{typed}
 use Rattle.slicc_plan.specs.JudgedStatements.{after, in_enqueue, in_peek, is_peek_allowed}
-use Rattle.slicc_plan.specs.Meanings.{Meaning, value, in_port, out_port, table, Wanted, any_value, one_of, fits, is_value, like_it, of_built_in}
+use Rattle.slicc_plan.specs.Meanings.{in_port, out_port, table, Wanted, any_value, one_of, fits, is_value, like_it, of_built_in}
 use Rattle.slicc_plan.specs.Types.{KnownType}
 use Rattle.rules_symbols.specs.TypedMeaning.{IsTyped}
 

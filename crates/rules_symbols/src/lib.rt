@@ -10,7 +10,7 @@ mod named;
 mod parts_of_types;
 mod typing;
 
-pub use calls::calls_are_operations;
+pub use calls::{arguments_fit, calls_are_operations};
 pub use fitting::what_fits_has_the_kind;
 pub use functions::{functions_have_kinds, state_functions_have_kinds};
 pub use kinds::{
