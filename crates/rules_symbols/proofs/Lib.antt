@@ -16,6 +16,7 @@ pub mod Members
 pub mod FunctionKinds
 pub mod StateKinds
 pub mod StatementForms
+pub mod TypedParts
 pub mod TypedExpressions
 pub mod TypedEnvironments
 pub mod TypedStatements

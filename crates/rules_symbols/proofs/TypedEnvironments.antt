@@ -28,7 +28,8 @@ use Rattle.rules_symbols.specs.Fitting.{IsInPort, IsOutPort}
 use Rattle.rules_symbols.specs.TypedMeaning.{IsTyped, IsTypedIn}
 use Rattle.rules_symbols.proofs.FunctionKinds.{formal_is}
 use Rattle.rules_symbols.proofs.StatementForms.{declared_is, enqueued_is, peeked_is}
-use Rattle.rules_symbols.proofs.TypedExpressions.{entry_line, line_of, named_typed, tbe_line_is, type_in_of, type_value, typed_sure, value_typed}
+use Rattle.rules_symbols.proofs.TypedExpressions.{line_of, named_typed, type_value, value_typed}
+use Rattle.rules_symbols.proofs.TypedParts.{entry_line, tbe_line_is, type_in_of, typed_sure}
 use Rattle.rules_symbols.proofs.WhatFits.{in_port_is, out_port_is}
 
 -- one more name

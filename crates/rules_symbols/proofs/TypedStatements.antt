@@ -17,7 +17,8 @@ use Rattle.rules_symbols.specs.TypedBodies.{AreTyped, AreTypedOthers, IsInPortNa
 use Rattle.rules_symbols.specs.TypedMeaning.{IsTyped, IsTypedIn}
 use Rattle.rules_symbols.proofs.StatementForms.{IsRight, assigned_is, checked_is, declared_is, enqueued_is, peeked_is, right_where, stalled_is}
 use Rattle.rules_symbols.proofs.TypedEnvironments.{declared_typed, enqueue_typed, meaning_typed, peek_typed}
-use Rattle.rules_symbols.proofs.TypedExpressions.{typed_is, typed_sure}
+use Rattle.rules_symbols.proofs.TypedExpressions.{typed_is}
+use Rattle.rules_symbols.proofs.TypedParts.{typed_sure}
 use Rattle.rules_symbols.proofs.WhatFits.{in_port_is, out_port_is, table_is}
 
 module _ (k : ℕ) where
