@@ -22,3 +22,4 @@ pub mod TypedEnvironments
 pub mod TypedStatements
 pub mod TypedProtocols
 pub mod Arguments
+pub mod ExpressionForms
