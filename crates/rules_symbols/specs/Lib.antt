@@ -1,3 +1,4 @@
+pub mod IsAmong
 pub mod Fitting
 pub mod CallRows
 pub mod NamedValues

@@ -13,13 +13,13 @@ use Rattle.slicc_plan.specs.ExpressionTypes.{fields_scope}
 use Rattle.slicc_plan.specs.Meanings.{Meaning, value, no_line, bare_line, new_line, incoming, outgoing, table, in_port, out_port, nothing, unknown, is_message, is_value}
 use Rattle.slicc_plan.specs.TypeNumbers.{made_in, scoped_declarations, value_kind}
 use Rattle.slicc_plan.specs.Types.{KnownType, built_in, enumerated, structured}
-use Rattle.slicc_plan.proofs.There.{There}
+use Rattle.rules_symbols.specs.IsAmong.{IsAmong}
 
 -- a structure that is declared in its scope, and whose members are looked at
 pub record IsStructureIn (trees : List Tree) (scope : Scope) (s : Structure) : Type 0 where
-  pub among : There (wide_scopes trees) scope
-  pub there : There (declared_in trees scope) (structure s)
-  pub declared : There (scoped_declarations trees) (made_in scope (structure s))
+  pub among : IsAmong (wide_scopes trees) scope
+  pub there : IsAmong (declared_in trees scope) (structure s)
+  pub declared : IsAmong (scoped_declarations trees) (made_in scope (structure s))
   pub is_own : is_external s ≡ false
 
 -- a type that a name of the machine may stand for: its own, or one of the protocol

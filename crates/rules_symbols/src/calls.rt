@@ -1,6 +1,6 @@
 ghost use Rattle.std.specs.Prelude.{◌≡◌, ◌≤◌, ℕ, false, Some, List, [], length, option_and_then, slice_get};
 ghost use Rattle.action_code.specs.Operations.{operations};
-ghost use Rattle.slicc_plan.proofs.There.{There};
+ghost use Rattle.rules_symbols.specs.IsAmong.{IsAmong};
 ghost use Rattle.slicc_plan.specs.BuiltInCalls.{Call, calls};
 ghost use Rattle.slicc_plan.specs.Meanings.{Wanted};
 ghost use Rattle.slicc_plan.specs.Prelude.{Environment, Given, wrong_arguments};
@@ -9,7 +9,7 @@ ghost use Rattle.rules_symbols.specs.Prelude.{AreArguments, IsTyped, is_other_wo
 /// Each built-in call is an operation of action code, written with each count of arguments that it may have, but those whose work other
 /// instructions do: the operation of its number is on what the call is on, takes its arguments' kinds and gives its answer's kind.
 pub fn calls_are_operations()
-    ensures { (c : Call) (more : ℕ) → There calls c → is_other_work c ≡ false
+    ensures { (c : Call) (more : ℕ) → IsAmong calls c → is_other_work c ≡ false
         → more ≤ length c.perhaps
         → option_and_then (slice_get operations) (number_of_call c more) ≡ Some (operation_of c more) }
 {}
@@ -19,7 +19,7 @@ pub fn calls_are_operations()
 pub fn arguments_fit()
     ensures { (env : Environment) (wanted : List Wanted) (given : List Given)
         → length given ≤ length wanted
-        → ((g : Given) → There given g → g.typed.broken ≡ []
+        → ((g : Given) → IsAmong given g → g.typed.broken ≡ []
         → IsTyped env.trees env.machine g.typed.meaning)
         → wrong_arguments env wanted given ≡ [] → AreArguments env wanted given }
 {}

@@ -15,7 +15,7 @@ ghost use Rattle.slicc_ast.specs.declared.tree.name.Name.{Name};
 ghost use Rattle.slicc_ast.specs.declared.tree.name.TypeName.{TypeName};
 ghost use Rattle.slicc_ast.specs.declared.tree.span.Span.{Span};
 ghost use Rattle.slicc_ast.specs.declared.tree.statement.Block.{Block};
-ghost use Rattle.slicc_plan.proofs.There.{There};
+ghost use Rattle.rules_symbols.specs.IsAmong.{IsAmong};
 ghost use Rattle.slicc_plan.specs.declared.built_in.BuiltInType.TheVariants.{Void};
 ghost use Rattle.slicc_plan.specs.Prelude.{IsAccepted, KnownType, built_in, first_named, formal_symbol, function, is_value, kind_in, machine_declarations, machine_symbols, machines_of, symbols_of, type_in, value_kind, within};
 ghost use Rattle.rules_symbols.specs.Prelude.{argument_kind};
@@ -51,15 +51,15 @@ pub fn functions_have_kinds()
     ensures formals { (trees : List Tree) (k : ℕ) (m : Machine) (kind : TypeName) (called : Name)
         (formals : Formals) (attributes : Pairs) (body : Block) (span : Span) (f : Formal)
         → IsAccepted trees → slice_get (machines_of trees) k ≡ Some m
-        → There (machine_declarations m)
-        (function (Plain kind called formals attributes (Some body) span)) → There formals.items f
+        → IsAmong (machine_declarations m)
+        (function (Plain kind called formals attributes (Some body) span)) → IsAmong formals.items f
         → (t : KnownType) × (its : Kind) × (type_in trees (within m) f.kind.text ≡ Some t)
         × (is_value m t ≡ true) × (value_kind trees m t ≡ Some its)
         × ((formal_symbol trees m f).kind ≡ its) }
     ensures answers { (trees : List Tree) (k : ℕ) (m : Machine) (kind : TypeName) (called : Name)
         (formals : Formals) (attributes : Pairs) (body : Block) (span : Span)
         → IsAccepted trees → slice_get (machines_of trees) k ≡ Some m
-        → There (machine_declarations m)
+        → IsAmong (machine_declarations m)
         (function (Plain kind called formals attributes (Some body) span))
         → (t : KnownType) × (type_in trees (within m) kind.text ≡ Some t)
         × ((t ≡ built_in Void) × (kind_in trees m kind ≡ None)

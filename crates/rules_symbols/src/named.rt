@@ -13,7 +13,7 @@ ghost use Rattle.slicc_ast.specs.declared.tree.machine.Machine.{Machine};
 ghost use Rattle.slicc_ast.specs.declared.tree.machine.Object.{Object};
 ghost use Rattle.slicc_ast.specs.declared.tree.machine.OutPort.{OutPort};
 ghost use Rattle.slicc_ast.specs.declared.tree.machine.Parameter.{Parameter};
-ghost use Rattle.slicc_plan.proofs.There.{There};
+ghost use Rattle.rules_symbols.specs.IsAmong.{IsAmong};
 ghost use Rattle.slicc_plan.specs.Prelude.{Declaration, IsAccepted, KnownType, buffer_symbol, first_named, is_named, is_sequencer, machine_declarations, machine_symbols, machines_of, object, parameter, structure_number, table_symbol, type_in, value_kind, within};
 ghost use Rattle.slicc_plan.specs.MachineValues.{reference_in, value_in};
 ghost use Rattle.rules_symbols.specs.Prelude.{IsNamedValue, IsPortOf};
@@ -23,30 +23,30 @@ ghost use Rattle.rules_symbols.specs.Prelude.{IsNamedValue, IsPortOf};
 pub fn names_stand_for_what_is_declared()
     ensures tables { (trees : List Tree) (k : ℕ) (m : Machine) (text : List ℕ) (d : Declaration)
         (made : TableSymbol) → IsAccepted trees → slice_get (machines_of trees) k ≡ Some m
-        → There (machine_declarations m) d → is_named text d ≡ true
+        → IsAmong (machine_declarations m) d → is_named text d ≡ true
         → table_symbol trees m d ≡ made ∷ []
         → (n : ℕ) × (stands_for (machine_symbols trees k m) text ≡ Some (named.Table n))
         × (slice_get (machine_symbols trees k m).tables n ≡ Some made) }
     ensures values { (trees : List Tree) (k : ℕ) (m : Machine) (text : List ℕ) (d : Declaration)
         (made : FieldSymbol) → IsAccepted trees → slice_get (machines_of trees) k ≡ Some m
-        → There (machine_declarations m) d → is_named text d ≡ true → value_in trees m d ≡ made ∷ []
+        → IsAmong (machine_declarations m) d → is_named text d ≡ true → value_in trees m d ≡ made ∷ []
         → (n : ℕ) × (stands_for (machine_symbols trees k m) text ≡ Some (named.Value n))
         × (slice_get (machine_symbols trees k m).values n ≡ Some made) }
     ensures references { (trees : List Tree) (k : ℕ) (m : Machine) (text : List ℕ) (d : Declaration)
         (made : FieldSymbol) → IsAccepted trees → slice_get (machines_of trees) k ≡ Some m
-        → There (machine_declarations m) d → is_named text d ≡ true
+        → IsAmong (machine_declarations m) d → is_named text d ≡ true
         → reference_in trees m d ≡ made ∷ []
         → (n : ℕ) × (stands_for (machine_symbols trees k m) text ≡ Some (named.Reference n))
         × (slice_get (machine_symbols trees k m).references n ≡ Some made) }
     ensures buffers { (trees : List Tree) (k : ℕ) (m : Machine) (text : List ℕ) (d : Declaration)
         (made : BufferSymbol) → IsAccepted trees → slice_get (machines_of trees) k ≡ Some m
-        → There (machine_declarations m) d → is_named text d ≡ true
+        → IsAmong (machine_declarations m) d → is_named text d ≡ true
         → buffer_symbol trees k m d ≡ made ∷ []
         → (n : ℕ) × (stands_for (machine_symbols trees k m) text ≡ Some (named.Buffer n))
         × (slice_get (machine_symbols trees k m).buffers n ≡ Some made) }
     ensures sequencer { (trees : List Tree) (k : ℕ) (m : Machine) (text : List ℕ) (d : Declaration)
         → IsAccepted trees → slice_get (machines_of trees) k ≡ Some m
-        → There (machine_declarations m) d → is_named text d ≡ true
+        → IsAmong (machine_declarations m) d → is_named text d ≡ true
         → is_sequencer trees m d ≡ true
         → stands_for (machine_symbols trees k m) text ≡ Some named.Sequencer }
     ensures nothing { (trees : List Tree) (k : ℕ) (m : Machine) (text : List ℕ) → IsAccepted trees
@@ -59,12 +59,12 @@ pub fn names_stand_for_what_is_declared()
 pub fn parameters_have_kinds()
     ensures parameters { (trees : List Tree) (k : ℕ) (m : Machine) (p : Parameter) (t : KnownType)
         (kind : Kind) → IsAccepted trees → slice_get (machines_of trees) k ≡ Some m
-        → There (machine_declarations m) (parameter p)
+        → IsAmong (machine_declarations m) (parameter p)
         → type_in trees (within m) p.kind.text ≡ Some t → value_kind trees m t ≡ Some kind
         → IsNamedValue (machine_symbols trees k m) p.name.text t kind }
     ensures objects { (trees : List Tree) (k : ℕ) (m : Machine) (o : Object) (t : KnownType)
         (kind : Kind) → IsAccepted trees → slice_get (machines_of trees) k ≡ Some m
-        → There (machine_declarations m) (object o)
+        → IsAmong (machine_declarations m) (object o)
         → type_in trees (within m) o.kind.text ≡ Some t → value_kind trees m t ≡ Some kind
         → IsNamedValue (machine_symbols trees k m) o.name.text t kind }
 {}
@@ -73,13 +73,13 @@ pub fn parameters_have_kinds()
 pub fn ports_are_on_buffers()
     ensures in_ports { (trees : List Tree) (k : ℕ) (m : Machine) (p : InPort) (t : KnownType)
         → IsAccepted trees → slice_get (machines_of trees) k ≡ Some m
-        → There m.declarations (decl.InPort p)
+        → IsAmong m.declarations (decl.InPort p)
         → type_in trees (within m) p.message.text ≡ Some t
         → IsPortOf (machine_symbols trees k m) p.name.text named.InPort
         (machine_symbols trees k m).in_ports (structure_number trees t) }
     ensures out_ports { (trees : List Tree) (k : ℕ) (m : Machine) (p : OutPort) (t : KnownType)
         → IsAccepted trees → slice_get (machines_of trees) k ≡ Some m
-        → There m.declarations (decl.OutPort p)
+        → IsAmong m.declarations (decl.OutPort p)
         → type_in trees (within m) p.message.text ≡ Some t
         → IsPortOf (machine_symbols trees k m) p.name.text named.OutPort
         (machine_symbols trees k m).out_ports (structure_number trees t) }

@@ -12,7 +12,7 @@ ghost use Rattle.slicc_ast.specs.declared.tree.name.Name.{Name};
 ghost use Rattle.slicc_ast.specs.declared.tree.name.TypeName.{TypeName};
 ghost use Rattle.slicc_ast.specs.declared.tree.span.Span.{Span};
 ghost use Rattle.slicc_ast.specs.declared.tree.statement.Block.{Block};
-ghost use Rattle.slicc_plan.proofs.There.{There};
+ghost use Rattle.rules_symbols.specs.IsAmong.{IsAmong};
 ghost use Rattle.slicc_plan.specs.Declarations.{in_port};
 ghost use Rattle.slicc_plan.specs.Environment.{local_name};
 ghost use Rattle.slicc_plan.specs.Prelude.{Environment, IsAccepted, action, action_environment, binding, declared, enqueued, function, function_environment, in_enqueue, in_peek, local_meaning, machine_declarations, machines_of, peeked, port_environment, typed};
@@ -36,7 +36,7 @@ pub fn names_of_bodies_are_typed()
     ensures functions { (trees : List Tree) (k : ℕ) (m : Machine) (kind : TypeName) (called : Name)
         (formals : Formals) (attributes : Pairs) (body : Block) (span : Span)
         → IsAccepted trees → slice_get (machines_of trees) k ≡ Some m
-        → There (machine_declarations m)
+        → IsAmong (machine_declarations m)
         (function (Plain kind called formals attributes (Some body) span))
         → IsTypedIn k (function_environment trees m kind formals.items) }
     ensures locals { (k : ℕ) (env : Environment) (kind : TypeName) (called : Name) (e : Expr)
@@ -53,15 +53,15 @@ pub fn names_of_bodies_are_typed()
 /// it, each name of a port or a table stands for such a one, and each form stands in a body where it is allowed.
 pub fn bodies_are_typed()
     ensures ports { (trees : List Tree) (k : ℕ) (m : Machine) (p : InPort) → IsAccepted trees
-        → slice_get (machines_of trees) k ≡ Some m → There (machine_declarations m) (in_port p)
+        → slice_get (machines_of trees) k ≡ Some m → IsAmong (machine_declarations m) (in_port p)
         → AreTyped (port_environment trees m) p.body.statements }
     ensures actions { (trees : List Tree) (k : ℕ) (m : Machine) (a : Action) → IsAccepted trees
-        → slice_get (machines_of trees) k ≡ Some m → There (machine_declarations m) (action a)
+        → slice_get (machines_of trees) k ≡ Some m → IsAmong (machine_declarations m) (action a)
         → AreTyped (action_environment trees m) a.body.statements }
     ensures functions { (trees : List Tree) (k : ℕ) (m : Machine) (kind : TypeName) (called : Name)
         (formals : Formals) (attributes : Pairs) (body : Block) (span : Span)
         → IsAccepted trees → slice_get (machines_of trees) k ≡ Some m
-        → There (machine_declarations m)
+        → IsAmong (machine_declarations m)
         (function (Plain kind called formals attributes (Some body) span))
         → AreTyped (function_environment trees m kind formals.items) body.statements }
 {}
