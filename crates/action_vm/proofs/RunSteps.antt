@@ -3,6 +3,7 @@ use Rattle.std.proofs.Common.{◌≡◌, ℕ, zero, suc, ◌+◌, ◌-◌, ◌<�
 use Rattle.std.proofs.lemmas.Bool.{and_parts, eqb-true, ltb-true}
 use Rattle.std.proofs.lemmas.List.Elements.{All-nil}
 use Rattle.ruby_value.specs.declared.fault.Fault.{Fault}
+use Rattle.ruby_value.specs.declared.kind.Kind.{Kind}
 use Rattle.ruby_value.specs.declared.value.Value.{Value}
 use Rattle.ruby_value.specs.Prelude.{default_value}
 use Rattle.ctl_face.specs.declared.message_at.MessageAt.{MessageAt}
@@ -17,13 +18,14 @@ use Rattle.action_code.specs.declared.instr.Code.{Code}
 use Rattle.action_code.specs.declared.instr.Instr.{Instr}
 use Rattle.action_code.specs.declared.instr.Instr.TheVariants as instr
 use Rattle.action_code.specs.declared.program.Program.{Program}
+use Rattle.action_code.specs.declared.program.TableDecl.{TableDecl}
 use Rattle.action_code.specs.Prelude.{Fits, KeepsRules, call_sign, machine_of, operands_fit, shape_after, shape_before, sign, tables_of, ways_before}
 use Rattle.action_code.proofs.EachPlaces.{each_place_from}
 use Rattle.action_code.proofs.Steps.{there}
 use Rattle.code_meaning.specs.declared.code_end.CodeEnd.{CodeEnd}
 use Rattle.code_meaning.specs.declared.code_end.CodeEnd.TheVariants as code_end
-use Rattle.code_meaning.specs.Prelude.{Held, IsDeclared, IsTyped, On, Over as Ended, Step, To, are_of_kinds, argument_count, arguments_on, bodies_below, called, code_step, enter, entered, exec, follow, run_body}
-use Rattle.code_meaning.proofs.Bodies.{below_is, calls_end}
+use Rattle.code_meaning.specs.Prelude.{Held, IsDeclared, IsTyped, On, Over as Ended, Step, To, are_of_kinds, argument_count, arguments_on, bodies_below, called, code_step, enter, entered, exec, follow, is_end_of, run_body}
+use Rattle.code_meaning.proofs.Bodies.{below_is, calls_end, run_ends}
 use Rattle.code_meaning.specs.Answers.{HoldsOfAnswer as Holds}
 use Rattle.code_meaning.proofs.Places.{goes_on, jumps}
 use Rattle.code_meaning.proofs.Turns.{Turned, arguments_are, leads}
@@ -31,7 +33,7 @@ use Rattle.code_meaning.proofs.Typed.{begins_typed, same_typed}
 use Rattle.action_vm.specs.declared.frame.Frame.{Frame}
 use Rattle.action_vm.specs.declared.frame.Next.{Next}
 use Rattle.action_vm.specs.declared.frame.Next.TheVariants as next
-use Rattle.action_vm.specs.Prelude.{CalledAs, EndsAs, HasPlaces, IsAt, IsCallOf, IsNoCall, MayRun, Needs, code_at, fields_at, held_of, outcome, place_after, step_at, step_of}
+use Rattle.action_vm.specs.Prelude.{CalledAs, EndsAs, EndsOfKind, HasPlaces, IsAt, IsCallOf, IsNoCall, MayRun, Needs, code_at, fields_at, held_of, outcome, place_after, step_at, step_of}
 use Rattle.action_vm.proofs.Ready.{ready}
 
 -- The same frame means the same in a later local of the scan.
@@ -328,3 +330,24 @@ module _ (p q : Program) (same : p ≡ q) (body : ℕ) (arguments : List Value) 
   ends_as_fault_of f e is does =
       subst (λ x. EndsAs (run_body x body arguments) (Ok (code_end.Stop f)) v w) same
       (ends_as_fault (run_body p body arguments) f v w (subst (λ t. DoesAs itself (run_body p body arguments) (Err t) v w) is does))
+
+-- What it answers is an end of the body with its result.
+
+stop_is_end : (tables : List TableDecl) (result : Option Kind) (f : Fault) → is_end_of tables result (code_end.Stop f) ≡ true
+stop_is_end tables None f = refl
+stop_is_end tables (Some k) f = refl
+
+pub stop_of_kind : (p : Program) (o : Option Code) (f : Fault) → EndsOfKind p o (Ok (code_end.Stop f))
+stop_of_kind p None f = tt
+stop_of_kind p (Some c) f = stop_is_end (tables_of (machine_of p c)) c.result f
+
+module _ (body : ℕ) (arguments : List Value) (end : CodeEnd) (v w : LocalView) (lawful : IsLawful v) where
+  end_by : (p : Program) (fits : Fits p) (o : Option Code) → slice_get p.bodies body ≡ o → IsCallOf p o arguments v → DoesAs itself (run_body p body arguments) (Ok end) v w → EndsOfKind p o (Ok end)
+  unfolding DoesAs
+  end_by p fits None found call does = tt
+  end_by p fits (Some c) found call does =
+      let g = run_ends p (each_place_from p fits) v.machine body c found call.machine arguments call.arguments in
+      subst (Holds (λ end. is_end_of (tables_of (machine_of p c)) c.result end ≡ true)) does (g.gives v lawful refl)
+
+  pub end_of_kind : (p q : Program) → p ≡ q → Fits q → IsCallOf q (slice_get q.bodies body) arguments v → DoesAs itself (run_body p body arguments) (Ok end) v w → EndsOfKind q (slice_get q.bodies body) (Ok end)
+  end_of_kind p q same fits call does = end_by q fits (slice_get q.bodies body) refl call (subst (λ x. DoesAs itself (run_body x body arguments) (Ok end) v w) same does)

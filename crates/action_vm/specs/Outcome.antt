@@ -11,7 +11,7 @@ use Rattle.action_code.specs.declared.program.Program.{Program}
 use Rattle.action_code.specs.Prelude.{machine_of, tables_of}
 use Rattle.code_meaning.specs.declared.code_end.CodeEnd.{CodeEnd}
 use Rattle.code_meaning.specs.declared.code_end.CodeEnd.TheVariants as code_end
-use Rattle.code_meaning.specs.Prelude.{IsDeclared, are_of_kinds}
+use Rattle.code_meaning.specs.Prelude.{IsDeclared, are_of_kinds, is_end_of}
 
 -- the arguments have a body's kinds, and the local is one of its machine
 pub record MayRun (p : Program) (c : Code) (given : List Value) (v : LocalView) : Type 0 where
@@ -36,3 +36,8 @@ abbrev pub EndsAs : Acting CodeEnd → Result CodeEnd NoMemory → LocalView →
 EndsAs q (Ok (code_end.Stop f)) old new = outcome (run q old) ≡ Err f
 EndsAs q (Ok end) old new = outcome (run q old) ≡ Ok (record { value = end; view = new })
 EndsAs q (Err none) old new = Unit {0}
+
+-- and it is an end of a body with that result: a value is of the kind that the body of this number is declared to give
+abbrev pub EndsOfKind : Program → Option Code → Result CodeEnd NoMemory → Type 0
+EndsOfKind p (Some c) (Ok end) = is_end_of (tables_of (machine_of p c)) c.result end ≡ true
+EndsOfKind p c r = Unit {0}

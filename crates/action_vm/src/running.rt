@@ -4,7 +4,7 @@ ghost use Rattle.acts.specs.Prelude.{DoesAs, itself};
 ghost use Rattle.action_code.specs.Prelude.{Fits};
 ghost use Rattle.code_meaning.specs.Prelude.{run_body};
 ghost use Rattle.action_vm.specs.Frames.{HasPlaces, held_of, step_of};
-ghost use Rattle.action_vm.specs.Outcome.{EndsAs, IsCallOf};
+ghost use Rattle.action_vm.specs.Outcome.{EndsAs, EndsOfKind, IsCallOf};
 ghost use Rattle.action_vm.specs.Places.{IsAt, code_at, place_after};
 
 use crate::frame::{Frame, Next, entered};
@@ -85,8 +85,9 @@ fn run<T: Local>(
     }
 }
 
-/// Runs the body of this number of verified code, in a local of its machine, with these arguments: it answers how the body ends. A fault
-/// at which it stops is an end too, after which the caller drops the local, as after want of memory.
+/// Runs the body of this number of verified code, in a local of its machine, with these arguments: it answers how the body ends, which is
+/// as it is declared to, where it doesn't ask for an event. A fault at which it stops is an end too, after which the caller drops the
+/// local, as after want of memory.
 pub fn run_code<T: Local>(
     alloc: Global,
     code: &Verified,
@@ -95,8 +96,9 @@ pub fn run_code<T: Local>(
     arguments: Seq<Value>,
 ) -> Result<CodeEnd, NoMemory>
     requires { IsCallOf code.now (slice_get code.now.bodies body) arguments (T.view local.old) }
-    ensures { EndsAs (run_body code.now body arguments) result (T.view local.old)
+    ensures does { EndsAs (run_body code.now body arguments) result (T.view local.old)
         (T.view local.new) }
+    ensures kind { EndsOfKind code.now (slice_get code.now.bodies body) result }
 {
     match run(alloc, code.program(), body, local, arguments) {
         Ok(end) => Ok(end),
