@@ -1,5 +1,4 @@
 pub mod Stacks
-pub mod Needs
 pub mod Pops
 pub mod Frames
 pub mod Places

@@ -5,7 +5,6 @@
 mod frame;
 mod operating;
 mod plain;
-mod pops;
 mod reading;
 mod running;
 mod stack;

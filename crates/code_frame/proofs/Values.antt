@@ -1,12 +1,12 @@
 -- Slots as values: what is put on top, taken off, read and written.
-use Rattle.std.proofs.Common.{◌≡◌, ◌≢◌, false, ℕ, zero, suc, ◌+◌, ◌<◌, ◌≤◌, Option, None, Some, List, [], ◌∷◌, ◌++◌, length, take, slice_get, slice_set, refl, sym, ap, ◌∙◌, arith, w64}
+use Rattle.std.proofs.Common.{◌≡◌, ◌≢◌, false, ℕ, zero, suc, ◌+◌, ◌<◌, ◌≤◌, Some, List, [], ◌∷◌, ◌++◌, length, take, slice_get, slice_set, refl, sym, ap, ◌∙◌, arith, w64}
 use Rattle.std.specs.Int.{cast_signed}
 use Rattle.ruby_value.specs.declared.value.Value.{Value}
 use Rattle.ruby_value.specs.declared.value.Value.TheVariants as value
 use Rattle.code_frame.specs.declared.slot.Slot.{Slot}
 use Rattle.code_frame.specs.declared.slot.Sort.{Sort}
 use Rattle.code_frame.specs.declared.slot.Sort.TheVariants as sort
-use Rattle.code_frame.specs.Prelude.{IsAddress, IsBig, IsBool, IsInt, IsOverReference, IsReference, IsWord, big, of_sort, reference_of, value_at, value_in, values_from, word_of}
+use Rattle.code_frame.specs.Prelude.{IsAddress, IsBig, IsBool, IsInt, IsTopReference, IsReference, IsWord, big, of_sort, reference_of, value_at, value_in, values_from}
 
 pub values_push : (at k : ℕ) (ws : List Slot) (s : Slot) (kept : List Value) → k ≡ at + length ws → values_from at (ws ++ s ∷ []) kept ≡ values_from at ws kept ++ value_in s (value_at kept k) ∷ []
 values_push at k [] s kept e = let same : at ≡ k = omega (arith, e) in ap (λ j. value_in s (value_at kept j) ∷ []) same
@@ -92,7 +92,7 @@ address_word sort.Addr w x is = refl
 address_word sort.Apart w x is = absurd (no_address (big x) (big_is x) is)
 address_word t w x is = absurd is
 
-pub reference_word : (t : Sort) (w : ℕ) (x : Value) (left : List Value) → IsReference (of_sort t w x) → IsOverReference (of_sort t w x ∷ left) (reference_of t w) left
+pub reference_word : (t : Sort) (w : ℕ) (x : Value) (left : List Value) → IsReference (of_sort t w x) → IsTopReference (of_sort t w x ∷ left) (reference_of t w) left
 reference_word (sort.Entry table) w x left is = (refl, refl)
 reference_word (sort.Tbe table) w x left is = (refl, refl)
 reference_word sort.NoEntry w x left is = (refl, refl)

@@ -1,5 +1,5 @@
 -- The parts of a frame: how they change with the list in which they lie.
-use Rattle.std.proofs.Common.{◌≡◌, ◌≢◌, ◌==◌, false, ℕ, ℤ, zero, suc, ◌+◌, ◌-◌, ◌<◌, ◌≤◌, Option, None, Some, List, [], ◌∷◌, ◌++◌, length, length-append, length-drop, map, drop, take, reverse, slice_get, slice_set, unwrap_or, refl, sym, ap, subst, ◌∙◌, arith, append_assoc, w64, inl, inr}
+use Rattle.std.proofs.Common.{◌≡◌, ◌==◌, false, ℕ, ℤ, zero, suc, ◌+◌, ◌-◌, ◌<◌, ◌≤◌, Some, List, [], ◌∷◌, ◌++◌, length, length-append, length-drop, map, drop, take, reverse, slice_get, slice_set, unwrap_or, refl, sym, ap, subst, ◌∙◌, arith, append_assoc, w64, inl, inr}
 use Rattle.std.proofs.lemmas.Bool.{cases_lt}
 use Rattle.std.proofs.lemmas.List.{drop_all, drop_at, drop-set-add, drop-set-lt, length-reverse, length-take-le, reverse-append, reverse-reverse, take_at, take-append-drop, take-append-le, take-set-le}
 use Rattle.std.proofs.Math.Seq.{take-set-lt}
@@ -10,8 +10,7 @@ use Rattle.ruby_value.specs.declared.value.Value.TheVariants as value
 use Rattle.ruby_value.specs.Prelude.{default_value}
 use Rattle.code_frame.specs.declared.mark.Mark.{Mark}
 use Rattle.code_frame.specs.declared.slot.Slot.{Slot}
-use Rattle.code_frame.specs.declared.slot.Sort.{Sort}
-use Rattle.code_frame.specs.Prelude.{IsAddress, IsBig, IsBool, IsInt, IsMark, IsMoved, IsOverReference, IsPut, IsReference, IsWord, Over, Rest, SameElsewhere, SameRest, Window, begun, big, of_sort, pushed, reference_of, stored, value_at, value_in, values_from, window, word_of}
+use Rattle.code_frame.specs.Prelude.{IsAddress, IsBig, IsBool, IsInt, IsMark, IsMoved, IsTopReference, IsPut, IsReference, IsWord, Over, Rest, SameElsewhere, SameRest, Window, begun, big, pushed, reference_of, stored, value_at, value_in, values_from, window, word_of}
 use Rattle.code_frame.proofs.Values.{address_word, big_itself, bool_word, int_word, is_word, reference_word, values_get, values_length, values_push, values_same, values_set}
 
 pub same_window : (a b : Window) → a.stack ≡ b.stack → a.locals ≡ b.locals → a.under ≡ b.under → a ≡ b
@@ -102,9 +101,9 @@ module _ (ws more : List Slot) (s : Slot) (kept : List Value) (is : more ≡ ws 
       stack_is ws more s kept is base floor low old view IsAddress Rest over
       ∙ ap (λ v. v ∷ reverse (drop floor (values_from 0 ws kept))) (address_word s.sort s.word (value_at kept (length ws)) (on_top ws more s kept is base floor low old view IsAddress Rest over))
 
-  pub popped_reference : Over IsReference Rest old.stack → IsOverReference old.stack (reference_of s.sort s.word) (reverse (drop floor (values_from 0 ws kept)))
+  pub popped_reference : Over IsReference Rest old.stack → IsTopReference old.stack (reference_of s.sort s.word) (reverse (drop floor (values_from 0 ws kept)))
   popped_reference over =
-      subst (λ l. IsOverReference l (reference_of s.sort s.word) (reverse (drop floor (values_from 0 ws kept)))) (sym (stack_is ws more s kept is base floor low old view IsReference Rest over))
+      subst (λ l. IsTopReference l (reference_of s.sort s.word) (reverse (drop floor (values_from 0 ws kept)))) (sym (stack_is ws more s kept is base floor low old view IsReference Rest over))
       (reference_word s.sort s.word (value_at kept (length ws)) (reverse (drop floor (values_from 0 ws kept))) (on_top ws more s kept is base floor low old view IsReference Rest over))
 
 -- A value that is kept apart is pushed.
@@ -257,3 +256,19 @@ pub local_low : (ws more : List Slot) (s : Slot) (kept : List Value) (is : more 
 local_low ws more s kept is base floor low old view P Q over n within =
     let high : floor ≤ length ws = some_above ws more s kept is base floor low old view P Q over in
     (local_below (values_from 0 more kept) base floor n old view within (omega (arith, high, values_length 0 more kept, long ws more s kept is base floor low)), high)
+
+-- one more value off the top
+pub next_off : (stack : List Value) (i : ℕ) (v : Value) (rest : List Value) → drop i stack ≡ v ∷ rest → (take (i + 1) stack ≡ take i stack ++ v ∷ []) × (drop (i + 1) stack ≡ rest)
+next_off [] zero v rest is = absurd (cc is)
+next_off [] (suc i) v rest is = absurd (cc is)
+next_off (x ∷ stack) zero v rest is =
+    let first : x ≡ v = cc is in
+    let more : stack ≡ rest = cc is in
+    (ap (λ (y : Value). y ∷ []) first, more)
+next_off (x ∷ stack) (suc i) v rest is =
+    let next = next_off stack i v rest is in
+    let e : suc (i + 1) ≡ suc i + 1 = omega arith in
+    (ap (λ k. take k (x ∷ stack)) (sym e) ∙ ap (λ (l : List Value). x ∷ l) next.0, ap (λ k. drop k (x ∷ stack)) (sym e) ∙ next.1)
+
+pub same_rests : (a b c : Window) → SameRest a b → SameRest b c → SameRest a c
+same_rests a b c first second = record { locals = second.locals ∙ first.locals; under = second.under ∙ first.under }

@@ -33,8 +33,8 @@ IsReference (value.Tbe r) = Unit {0}
 IsReference _ = ⊥
 
 -- a reference on top of what is left, whichever sort of value holds it
-abbrev pub IsOverReference : List Value → Option Ref → List Value → Type 0
-IsOverReference [] r left = ⊥
-IsOverReference (value.Entry held ∷ stack) r left = (held ≡ r) × (stack ≡ left)
-IsOverReference (value.Tbe held ∷ stack) r left = (held ≡ r) × (stack ≡ left)
-IsOverReference (v ∷ stack) r left = ⊥
+abbrev pub IsTopReference : List Value → Option Ref → List Value → Type 0
+IsTopReference [] r left = ⊥
+IsTopReference (value.Entry held ∷ stack) r left = (held ≡ r) × (stack ≡ left)
+IsTopReference (value.Tbe held ∷ stack) r left = (held ≡ r) × (stack ≡ left)
+IsTopReference (v ∷ stack) r left = ⊥

@@ -1,6 +1,6 @@
 -- What slots mean. A slot has a word and says what the word stands for; a set of controllers or a block is kept apart, at the place of
 -- its slot, and what isn't kept there counts as false.
-use Rattle.std.specs.Prelude.{◌≡◌, ◌≢◌, ℕ, ◌+◌, ◌==◌, ◌<◌, ◌%◌, false, Option, None, Some, List, [], ◌∷◌, replicate, slice_get, unwrap_or}
+use Rattle.std.specs.Prelude.{◌≡◌, ◌≢◌, ℕ, ◌+◌, ◌==◌, ◌%◌, false, Option, None, Some, List, [], ◌∷◌, replicate, slice_get, unwrap_or}
 use Rattle.std.specs.Int.{cast_signed}
 use Rattle.std.specs.Int.{w64}
 use Rattle.ruby_value.specs.declared.value.Ref.{Ref}

@@ -1,7 +1,7 @@
-ghost use Rattle.std.specs.Prelude.{◌≡◌, ◌<◌, ◌≤◌, [], ◌∷◌, ◌++◌, List, length, map, reverse, IfOk, OnOk};
+ghost use Rattle.std.specs.Prelude.{◌≡◌, ◌<◌, ◌≤◌, [], ◌∷◌, ◌++◌, List, drop, length, map, reverse, take, IfOk, OnOk};
 ghost use Rattle.ruby_value.specs.declared.value.Value.{Value as AnyValue};
 ghost use Rattle.ruby_value.specs.Prelude.{default_value};
-ghost use Rattle.code_frame.specs.Needs.{Any, IsAddress, IsBool, IsInt, IsOverReference, IsReference, Over, Rest};
+ghost use Rattle.code_frame.specs.Needs.{Any, IsAddress, IsBool, IsInt, IsTopReference, IsReference, Over, Rest};
 ghost use Rattle.code_frame.specs.Slots.{IsBig, IsWord, value_at, word_of};
 ghost use Rattle.code_frame.specs.Window.{IsMark, SameRest, Window, begun, pushed, stored};
 
@@ -120,6 +120,18 @@ impl Frame {
         }
     }
 
+    /// Puts these values on top, the last one topmost.
+    pub fn push_all(&mut self, mut values: Vec<Value>) -> Result<(), NoMemory>
+        ensures stack { OnOk result (self.new.stack ≡ reverse values.items ++ self.old.stack) }
+        ensures rest { OnOk result (SameRest self.old self.new) }
+    {
+        values.reverse();
+        while let Some(v) = values.pop() {
+            self.push(v)?;
+        }
+        Ok(())
+    }
+
     /// Puts a number on top.
     pub fn push_int(&mut self, n: i64) -> Result<(), NoMemory>
         ensures { OnOk result (self.new ≡ pushed (Value.Int n) self.old) }
@@ -174,10 +186,25 @@ impl Frame {
     /// Takes off a reference to a line or to nothing.
     pub fn pop_reference(&mut self) -> Option<Ref>
         requires { Over IsReference Rest self.old.stack }
-        ensures stack { IsOverReference self.old.stack result self.new.stack }
+        ensures stack { IsTopReference self.old.stack result self.new.stack }
         ensures rest { SameRest self.old self.new }
     {
         reference_of(self.words.pop())
+    }
+
+    /// Takes off so many values, and gives them from the lowest up.
+    pub fn take(&mut self, alloc: Global, count: usize) -> Result<Vec<Value>, NoMemory>
+        requires { count ≤ length self.old.stack }
+        ensures taken { IfOk result (λ v. v.items ≡ reverse (take count self.old.stack)) }
+        ensures left { OnOk result (self.new.stack ≡ drop count self.old.stack) }
+        ensures rest { OnOk result (SameRest self.old self.new) }
+    {
+        let mut values = Vec::with_capacity(alloc, count)?;
+        for _i in 0..count {
+            values.push(self.pop())?;
+        }
+        values.reverse();
+        Ok(values)
     }
 
     /// Puts the value of a local on top.

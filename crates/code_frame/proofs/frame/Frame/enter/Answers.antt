@@ -1,4 +1,4 @@
-use Rattle.std.proofs.Common.{◌≡◌, ◌+◌, ◌-◌, ◌≤◌, length, refl, sym, ap, ◌∙◌, arith}
+use Rattle.std.proofs.Common.{◌-◌, length, refl, sym, ap, ◌∙◌, arith}
 use Rattle.code_frame.specs.Prelude.{values_from}
 use Rattle.code_frame.proofs.Values.{values_length}
 use Rattle.code_frame.proofs.Windows.{begun_is, mark_is}

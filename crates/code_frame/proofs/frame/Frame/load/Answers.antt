@@ -1,7 +1,6 @@
 use Rattle.std.proofs.Common.{◌≡◌, ◌+◌, false, OnOk, refl, sym, ap, subst, ◌∙◌}
-use Rattle.ruby_value.specs.declared.value.Value.{Value}
 use Rattle.ruby_value.specs.declared.value.Value.TheVariants as value
-use Rattle.code_frame.specs.Prelude.{Window, big, of_sort, pushed, value_at, value_in, word_of}
+use Rattle.code_frame.specs.Prelude.{big, of_sort, pushed, value_at, word_of}
 use Rattle.code_frame.proofs.Values.{is_word, not_apart}
 use Rattle.code_frame.proofs.Windows.{local_is}
 use Rattle.code_frame.proofs.frame.Frame.load.Goals as goal

@@ -1,4 +1,3 @@
-use Rattle.std.proofs.Common.{sym}
 use Rattle.code_frame.specs.Prelude.{Any, Rest}
 use Rattle.code_frame.proofs.Windows.{popped_kept, some_above}
 use Rattle.code_frame.proofs.frame.Frame.pop.Goals as goal

@@ -1,4 +1,4 @@
-use Rattle.std.proofs.Common.{◌≡◌, ◌+◌, ◌<◌, ◌≤◌, length, refl, ap, ◌∙◌, arith}
+use Rattle.std.proofs.Common.{◌+◌, length, refl, ap, ◌∙◌, arith}
 use Rattle.std.proofs.lemmas.List.{length-set}
 use Rattle.code_frame.specs.Prelude.{Any, Rest, values_from, window}
 use Rattle.code_frame.proofs.Windows.{local_low, stored_is}

@@ -1,4 +1,4 @@
-use Rattle.std.proofs.Common.{◌<◌, ◌≤◌, length, ap, slice_set, ◌∙◌, arith}
+use Rattle.std.proofs.Common.{◌<◌, length, ap, slice_set, ◌∙◌, arith}
 use Rattle.std.proofs.lemmas.List.{length-take-le}
 use Rattle.std.proofs.Math.Seq.{take-set-lt}
 use Rattle.code_frame.proofs.words.Words.put.Goals as goal
