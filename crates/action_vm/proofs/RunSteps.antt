@@ -92,8 +92,8 @@ module _ (p : Program) (fits : Fits p) (body : ℕ) (c : Code) (found : slice_ge
       pub rules : KeepsRules p c at (ways_before p body c at) (shape_before p body c at) (sign p body c (shape_before p body c at) i) i
       rules = let all = each_place_from p fits body c found in all.each at i here
 
-      pub needs : Needs c i f
-      needs = ready p body c (shape_before p body c at) f v is.typed at (ways_before p body c at) i rules
+      pub needs : IsLawful v → Needs v c i f
+      needs lawful = ready p body c (shape_before p body c at) f v is.typed lawful is.machine at (ways_before p body c at) i rules
 
       -- what it leads to
       turned : IsLawful v → Holds (Turned p body c v.machine is.machine (bodies_below p body) i (shape_after p c (shape_before p body c at) i (sign p body c (shape_before p body c at) i))) (run (code_step p c (bodies_below p body) i (held_of v f)) v)

@@ -9,6 +9,7 @@ use Rattle.ctl_face.specs.declared.trouble.Trouble.{Trouble}
 use Rattle.ctl_face.specs.declared.trouble.Trouble.TheVariants as trouble
 use Rattle.ctl_face.specs.declared.message_at.MessageAt.{MessageAt}
 use Rattle.ctl_face.specs.Prelude.{IsPlace, LocalView}
+use Rattle.acts.specs.Act.{Front}
 use Rattle.acts.specs.Prelude.{message_there}
 use Rattle.action_code.specs.declared.instr.Code.{Code}
 use Rattle.action_code.specs.declared.instr.Instr.{Instr}
@@ -17,7 +18,8 @@ use Rattle.code_meaning.specs.declared.code_end.CodeEnd.{CodeEnd}
 use Rattle.code_meaning.specs.declared.code_end.CodeEnd.TheVariants as code_end
 use Rattle.built_in_acts.specs.Prelude.{argument}
 use Rattle.action_code.specs.Prelude.{operations}
-use Rattle.code_meaning.specs.Prelude.{Held, On, Over as Ends, Step, To, arity}
+use Rattle.code_meaning.specs.Prelude.{Held, On, Over as Ends, Step, To, arity, innermost}
+use Rattle.action_vm.specs.Served.{CanGet, CanSend, CanSet, IsServed}
 use Rattle.action_vm.specs.declared.frame.Ended.{Ended}
 use Rattle.action_vm.specs.declared.frame.Ended.TheVariants as ended
 use Rattle.action_vm.specs.declared.frame.Next.{Next}
@@ -82,29 +84,30 @@ abbrev pub NeedsResult : Option Kind → List Value → Type 0
 NeedsResult None stack = Unit {0}
 NeedsResult (Some k) stack = Over Any Rest stack
 
--- what an instruction of a body finds in a frame; of a call its own arm says that
-abbrev pub Needs : Code → Instr → Own → Type 0
-Needs c (instr.Load n) f = n < length f.locals
-Needs c (instr.Store n) f = Over Any Rest f.stack × (n < length f.locals)
-Needs c instr.Add f = Over IsInt (Over IsInt Rest) f.stack
-Needs c instr.Sub f = Over IsInt (Over IsInt Rest) f.stack
-Needs c instr.Mul f = Over IsInt (Over IsInt Rest) f.stack
-Needs c instr.Neg f = Over IsInt Rest f.stack
-Needs c instr.Not f = Over IsBool Rest f.stack
-Needs c instr.Lt f = Over IsInt (Over IsInt Rest) f.stack
-Needs c instr.Le f = Over IsInt (Over IsInt Rest) f.stack
-Needs c instr.Eq f = Over Any (Over Any Rest) f.stack
-Needs c (instr.Unless to) f = Over IsBool Rest f.stack
-Needs c (instr.Get field) f = Over IsReference Rest f.stack
-Needs c (instr.Set field) f = Over Any (Over IsReference Rest) f.stack
-Needs c (instr.Infield field) f = 0 < length f.inner
-Needs c (instr.Outfield field) f = 0 < length f.made
-Needs c (instr.Setout field) f = Over Any Rest f.stack × (0 < length f.made)
-Needs c (instr.Send buffer) f = Over IsInt Rest f.stack × (0 < length f.made)
-Needs c (instr.Op n on) f = arity (slice_get operations n) ≤ length f.stack
-Needs c (instr.Trigger event) f = Over IsReference (Over IsReference (Over IsAddress Rest)) f.stack
-Needs c instr.Ret f = NeedsResult c.result f.stack
-Needs c i f = Unit {0}
+-- what an instruction of a body finds there, in a local; of a call its own arm says that
+abbrev pub Needs : LocalView → Code → Instr → Own → Type 0
+Needs v c (instr.Load n) f = n < length f.locals
+Needs v c (instr.Store n) f = Over Any Rest f.stack × (n < length f.locals)
+Needs v c instr.Add f = Over IsInt (Over IsInt Rest) f.stack
+Needs v c instr.Sub f = Over IsInt (Over IsInt Rest) f.stack
+Needs v c instr.Mul f = Over IsInt (Over IsInt Rest) f.stack
+Needs v c instr.Neg f = Over IsInt Rest f.stack
+Needs v c instr.Not f = Over IsBool Rest f.stack
+Needs v c instr.Lt f = Over IsInt (Over IsInt Rest) f.stack
+Needs v c instr.Le f = Over IsInt (Over IsInt Rest) f.stack
+Needs v c instr.Eq f = Over Any (Over Any Rest) f.stack
+Needs v c (instr.Unless to) f = Over IsBool Rest f.stack
+Needs v c (instr.Get field) f = Over IsReference Rest f.stack × CanGet v field f.stack
+Needs v c (instr.Set field) f = Over Any (Over IsReference Rest) f.stack × CanSet v field f.stack
+Needs v c (instr.Peek buffer) f = IsServed v (Front buffer)
+Needs v c (instr.Infield field) f = 0 < length f.inner
+Needs v c (instr.Outfield field) f = 0 < length f.made
+Needs v c (instr.Setout field) f = Over Any Rest f.stack × (0 < length f.made)
+Needs v c (instr.Send buffer) f = Over IsInt Rest f.stack × (0 < length f.made) × CanSend v buffer (innermost f.made) f.stack
+Needs v c (instr.Op n on) f = arity (slice_get operations n) ≤ length f.stack
+Needs v c (instr.Trigger event) f = Over IsReference (Over IsReference (Over IsAddress Rest)) f.stack
+Needs v c instr.Ret f = NeedsResult c.result f.stack
+Needs v c i f = Unit {0}
 
 abbrev pub IsNoCall : Instr → Type 0
 IsNoCall (instr.Call n) = ⊥

@@ -4,24 +4,25 @@ ghost use Rattle.std.specs.Option.{option_copied};
 ghost use Rattle.ruby_value.specs.declared.value.Value.{Value};
 ghost use Rattle.ruby_value.specs.Prelude.{default_value};
 ghost use Rattle.ctl_face.specs.Prelude.{LocalView};
-ghost use Rattle.acts.specs.Act.{Send};
+ghost use Rattle.acts.specs.Act.{Front, Send};
 ghost use Rattle.acts.specs.Prelude.{DoesAs, act, itself};
 ghost use Rattle.built_in_acts.specs.Prelude.{argument, number};
 ghost use Rattle.code_meaning.specs.Prelude.{fetched, innermost, kinds_of, opened, read_of, written};
 ghost use Rattle.action_vm.specs.Frames.{HasPlaces, fields_at};
+ghost use Rattle.action_vm.specs.Served.{CanGet, CanSend, CanSet, IsServed};
 ghost use Rattle.code_frame.specs.Prelude.{Any, IsInt, IsReference, Over, Rest, SameRest};
 
+use crate::served::{field, front_at, send, set};
 use crate::stack::Stack;
 use action_code::Program;
-use acts::{
-    BodyFault, Fields, Local, MessageAt, NoMemory, Trouble, Value, field, front_at, send, set,
-};
+use acts::{BodyFault, Fields, Local, MessageAt, NoMemory, Trouble, Value};
 use code_frame::Frame;
 use std::alloc::Global;
 
 /// A field of the line that the reference on top names, in its place. Only the field is cloned.
 pub(crate) fn get<T: Local>(local: &T, frame: &mut Frame, f: u16) -> Result<(), Trouble>
-    requires { Over IsReference Rest frame.old.stack }
+    requires reference { Over IsReference Rest frame.old.stack }
+    requires served { CanGet (T.view local.now) f frame.old.stack }
     ensures does { DoesAs (λ _. frame.new.stack) (fetched f frame.old.stack) result (T.view local.now)
         (T.view local.now) }
     ensures rest { OnOk result (SameRest frame.old frame.new) }
@@ -37,7 +38,8 @@ pub(crate) fn get<T: Local>(local: &T, frame: &mut Frame, f: u16) -> Result<(), 
 }
 
 pub(crate) fn set_field<T: Local>(local: &mut T, frame: &mut Frame, f: u16) -> Result<(), Trouble>
-    requires { Over Any (Over IsReference Rest) frame.old.stack }
+    requires reference { Over Any (Over IsReference Rest) frame.old.stack }
+    requires served { CanSet (T.view local.old) f frame.old.stack }
     ensures does { DoesAs (λ _. frame.new.stack) (written f frame.old.stack) result (T.view local.old)
         (T.view local.new) }
     ensures rest { OnOk result (SameRest frame.old frame.new) }
@@ -55,6 +57,7 @@ pub(crate) fn peek<T: Local>(
     inner: &mut Stack<MessageAt>,
     buffer: u16,
 ) -> Result<(), Trouble>
+    requires { IsServed (T.view local.now) (Front buffer) }
     ensures does { DoesAs (λ _. fields_at (T.view local.now) inner.new)
         (opened buffer (fields_at (T.view local.now) inner.old)) result (T.view local.now) (T.view local.now) }
     ensures places { IfOk result (λ _. HasPlaces (T.view local.now) inner.old
@@ -159,6 +162,7 @@ pub(crate) fn send_out<T: Local>(
 ) -> Result<(), Trouble>
     requires latency { Over IsInt Rest frame.old.stack }
     requires message { 0 < length made.old }
+    requires served { CanSend (T.view local.old) buffer (innermost made.old) frame.old.stack }
     ensures does { DoesAs itself (act (Send buffer (number (argument frame.old.stack 0)) (innermost made.old)))
         result (T.view local.old) (T.view local.new) }
     ensures stack { OnOk result (frame.new.stack ≡ drop 1 frame.old.stack) }

@@ -43,7 +43,7 @@ pub(crate) fn turn<T: Local>(
     local: &mut T,
 ) -> Result<Next, Trouble>
     requires call { IsNoCall i.now }
-    requires needs { Needs c.now i.now (own frame.old messages.old) }
+    requires needs { Needs (T.view local.old) c.now i.now (own frame.old messages.old) }
     requires places { HasPlaces (T.view local.old) messages.old.inner }
     ensures does { (calls : Bodies) → DoesAs (step_of (T.view local.old) (own frame.new messages.new))
         (code_step p.now c.now calls i.now (held_of (T.view local.old) (own frame.old messages.old)))

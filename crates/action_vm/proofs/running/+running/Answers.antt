@@ -52,7 +52,7 @@ step-returns-in-Call-clause-does g t c =
 pub step-turn-requires : goal.step-turn-requires
 step-turn-requires g t c = record {
   call = no_call c.index-i.result.now c.in_default.not-Call;
-  needs = needs c.args.p.now c.requires.fits c.args.body c.args.c.now c.requires.body c.args.at (own c.args.frame.now c.args.messages.now) (g.T.Local.view c.args.local.now) c.requires.at c.index-i.result.now c.index-i.ensures;
+  needs = needs c.args.p.now c.requires.fits c.args.body c.args.c.now c.requires.body c.args.at (own c.args.frame.now c.args.messages.now) (g.T.Local.view c.args.local.now) c.requires.at c.index-i.result.now c.index-i.ensures (g.met.T.Local.lawful c.args.local.now);
   places = c.requires.at.places;
 }
 
