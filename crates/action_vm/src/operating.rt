@@ -1,17 +1,17 @@
 //! Operations, and ends of bodies.
-ghost use Rattle.std.specs.Prelude.{◌≡◌, ◌≤◌, List, length, slice_get, IfOk, OnOk};
+ghost use Rattle.std.specs.Prelude.{◌≡◌, ◌≤◌, List, drop, length, slice_get, IfOk, OnOk};
 ghost use Rattle.ruby_value.specs.declared.value.Value.{Value as AnyValue};
 ghost use Rattle.ctl_face.specs.Prelude.{LocalView};
-ghost use Rattle.acts.specs.Prelude.{DoesAs};
-ghost use Rattle.action_code.specs.Prelude.{machine_of, operations, tables_of};
-ghost use Rattle.built_in_acts.specs.Prelude.{argument};
-ghost use Rattle.code_meaning.specs.Prelude.{argument_count, arity, kept_of, kinds_of, operated, returned, stop_of, triggered};
+ghost use Rattle.acts.specs.Prelude.{DoesAs, itself};
+ghost use Rattle.action_code.specs.Prelude.{machine_of, operands_of, operations, tables_of};
+ghost use Rattle.built_in_acts.specs.Prelude.{argument, built_in};
+ghost use Rattle.code_meaning.specs.Prelude.{arguments_on, arity, kept_of, kinds_of, operated, returned, stop_of, triggered};
 ghost use Rattle.action_vm.specs.Frames.{HasResult, HasResultAfter, NeedsResult, Own, end_of, step_of};
 ghost use Rattle.code_frame.specs.Prelude.{IsAddress, IsReference, Over, Rest, SameRest};
 
 use crate::frame::{Ended, Next};
 use action_code::{Arguments, Code, OPERATIONS, Operation, Program, TableDecl};
-use acts::{Fault, Local, Trouble};
+use acts::{Fault, Local, Trouble, Value};
 use built_in_acts::{KeptMachines, address_of_line, built_in};
 use code_frame::Frame;
 use ruby_value::{Kind, line_of};
@@ -62,29 +62,56 @@ fn all_operations() -> &'static [Operation]
     &OPERATIONS
 }
 
-// How many values the operation of this number takes.
-fn arity(n: u16) -> usize
-    ensures { result ≡ arity (slice_get operations n) }
+// What the operation of this number takes.
+fn arguments_of(n: u16) -> Arguments
+    ensures { length (operands_of result) ≡ arity (slice_get operations n) }
 {
     match all_operations().get(usize::from(n)) {
-        None => 0,
-        Some(o) => match o.arguments {
-            Arguments::Zero => 0,
-            Arguments::One(_) => 1,
-            Arguments::Two(_, _) => 2,
-            Arguments::Three(_, _, _) => 3,
-            Arguments::Four(_, _, _, _) => 4,
-        },
+        None => Arguments::Zero,
+        Some(o) => o.arguments,
     }
 }
 
-/// How many arguments the body of this number has.
-pub(crate) fn argument_count(p: &Program, n: u32) -> usize
-    ensures { result ≡ argument_count (slice_get p.now.bodies n) }
+// Takes the arguments off, does the operation, and answers what it gives.
+fn asked<T: Local>(
+    alloc: Global,
+    kept: KeptMachines,
+    n: u16,
+    on: u16,
+    frame: &mut Frame,
+    local: &mut T,
+) -> Result<Option<Value>, Trouble>
+    requires { arity (slice_get operations n) ≤ length frame.old.stack }
+    ensures does { let count = arity (slice_get operations n) in
+        DoesAs itself (built_in kept n on (arguments_on count frame.old.stack)) result
+        (T.view local.old) (T.view local.new) }
+    ensures left { OnOk result (frame.new.stack ≡ drop (arity (slice_get operations n)) frame.old.stack) }
+    ensures rest { OnOk result (SameRest frame.old frame.new) }
 {
-    match p.bodies.get(n as usize) {
-        Some(c) => c.arguments.len(),
-        None => 0,
+    match arguments_of(n) {
+        Arguments::Zero => built_in(alloc, local, kept, n, on, &[]),
+        Arguments::One(_) => {
+            let arguments = [frame.pop()];
+            built_in(alloc, local, kept, n, on, &arguments)
+        }
+        Arguments::Two(_, _) => {
+            let b = frame.pop();
+            let arguments = [frame.pop(), b];
+            built_in(alloc, local, kept, n, on, &arguments)
+        }
+        Arguments::Three(_, _, _) => {
+            let d = frame.pop();
+            let b = frame.pop();
+            let arguments = [frame.pop(), b, d];
+            built_in(alloc, local, kept, n, on, &arguments)
+        }
+        Arguments::Four(_, _, _, _) => {
+            let e = frame.pop();
+            let d = frame.pop();
+            let b = frame.pop();
+            let arguments = [frame.pop(), b, d, e];
+            built_in(alloc, local, kept, n, on, &arguments)
+        }
     }
 }
 
@@ -103,8 +130,7 @@ pub(crate) fn operate<T: Local>(
         (T.view local.old) (T.view local.new) }
     ensures rest { OnOk result (SameRest frame.old frame.new) }
 {
-    let arguments = frame.take(alloc, arity(n))?;
-    let given = built_in(alloc, local, kept_of(p, c), n, on, arguments.as_slice())?;
+    let given = asked(alloc, kept_of(p, c), n, on, frame, local)?;
     if let Some(v) = given {
         frame.push(v)?;
     }
