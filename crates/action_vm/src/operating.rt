@@ -85,7 +85,8 @@ fn asked<T: Local>(
     ensures does { let count = arity (slice_get operations n) in
         DoesAs itself (built_in kept n on (arguments_on count frame.old.stack)) result
         (T.view local.old) (T.view local.new) }
-    ensures left { OnOk result (frame.new.stack ≡ drop (arity (slice_get operations n)) frame.old.stack) }
+    ensures left { OnOk result (frame.new.stack ≡ drop (arity
+        (slice_get operations n)) frame.old.stack) }
     ensures rest { OnOk result (SameRest frame.old frame.new) }
 {
     match arguments_of(n) {
@@ -157,7 +158,8 @@ pub(crate) fn trigger(frame: &mut Frame, event: u16) -> Ended
 
 /// The end of a body that stops with a fault.
 pub(crate) fn stop(alloc: Global, fault: &Fault) -> Result<Next, Trouble>
-    ensures does { (l : LocalView) (f : Own) → DoesAs (step_of l f) (stop_of fault.now) result l l }
+    ensures does { (l : LocalView) (f : Own) → DoesAs (step_of l f)
+        (stop_of fault.now) result l l }
     ensures value { (s : List AnyValue) → IfOk result (λ n. HasResultAfter n s) }
 {
     let own = Fault::copied(alloc, fault)?;

@@ -15,7 +15,8 @@ use code_frame::Frame;
 
 /// A value of its own on top.
 pub(crate) fn push(frame: &mut Frame, v: &Value) -> Result<(), Trouble>
-    ensures does { (l : LocalView) → DoesAs (λ _. frame.new.stack) (ends (v.now ∷ frame.old.stack)) result l l }
+    ensures does { (l : LocalView) → DoesAs (λ _. frame.new.stack) (ends
+        (v.now ∷ frame.old.stack)) result l l }
     ensures rest { OnOk result (SameRest frame.old frame.new) }
 {
     frame.push_copied(v)?;
@@ -61,7 +62,8 @@ fn negation(a: i64) -> Result<i64, BodyFault>
 // A number on top, or the fault in its place.
 #[tactic(auto, using(acts::proofs::Walk::walk_steps, crate::proofs::Arms::put_steps))]
 fn put(frame: &mut Frame, r: Result<i64, BodyFault>) -> Result<(), Trouble>
-    ensures does { (l : LocalView) → DoesAs (λ _. frame.new.stack) (given (with_number 0 frame.old.stack r)) result l l }
+    ensures does { (l : LocalView) → DoesAs (λ _. frame.new.stack) (given
+        (with_number 0 frame.old.stack r)) result l l }
     ensures rest { OnOk result (SameRest frame.old frame.new) }
 {
     match r {
@@ -75,7 +77,8 @@ fn put(frame: &mut Frame, r: Result<i64, BodyFault>) -> Result<(), Trouble>
 
 pub(crate) fn add(frame: &mut Frame) -> Result<(), Trouble>
     requires { Over IsInt (Over IsInt Rest) frame.old.stack }
-    ensures does { (l : LocalView) → DoesAs (λ _. frame.new.stack) (given (summed frame.old.stack)) result l l }
+    ensures does { (l : LocalView) → DoesAs (λ _. frame.new.stack) (given
+        (summed frame.old.stack)) result l l }
     ensures rest { OnOk result (SameRest frame.old frame.new) }
 {
     let b = frame.pop_int();
@@ -85,7 +88,8 @@ pub(crate) fn add(frame: &mut Frame) -> Result<(), Trouble>
 
 pub(crate) fn sub(frame: &mut Frame) -> Result<(), Trouble>
     requires { Over IsInt (Over IsInt Rest) frame.old.stack }
-    ensures does { (l : LocalView) → DoesAs (λ _. frame.new.stack) (given (subtracted frame.old.stack)) result l l }
+    ensures does { (l : LocalView) → DoesAs (λ _. frame.new.stack) (given
+        (subtracted frame.old.stack)) result l l }
     ensures rest { OnOk result (SameRest frame.old frame.new) }
 {
     let b = frame.pop_int();
@@ -95,7 +99,8 @@ pub(crate) fn sub(frame: &mut Frame) -> Result<(), Trouble>
 
 pub(crate) fn mul(frame: &mut Frame) -> Result<(), Trouble>
     requires { Over IsInt (Over IsInt Rest) frame.old.stack }
-    ensures does { (l : LocalView) → DoesAs (λ _. frame.new.stack) (given (multiplied frame.old.stack)) result l l }
+    ensures does { (l : LocalView) → DoesAs (λ _. frame.new.stack) (given
+        (multiplied frame.old.stack)) result l l }
     ensures rest { OnOk result (SameRest frame.old frame.new) }
 {
     let b = frame.pop_int();
@@ -105,7 +110,8 @@ pub(crate) fn mul(frame: &mut Frame) -> Result<(), Trouble>
 
 pub(crate) fn neg(frame: &mut Frame) -> Result<(), Trouble>
     requires { Over IsInt Rest frame.old.stack }
-    ensures does { (l : LocalView) → DoesAs (λ _. frame.new.stack) (given (negated frame.old.stack)) result l l }
+    ensures does { (l : LocalView) → DoesAs (λ _. frame.new.stack) (given
+        (negated frame.old.stack)) result l l }
     ensures rest { OnOk result (SameRest frame.old frame.new) }
 {
     let a = frame.pop_int();
@@ -115,7 +121,8 @@ pub(crate) fn neg(frame: &mut Frame) -> Result<(), Trouble>
 pub(crate) fn lt(frame: &mut Frame) -> Result<(), Trouble>
     requires { Over IsInt (Over IsInt Rest) frame.old.stack }
     ensures does { (l : LocalView) → DoesAs (λ _. frame.new.stack)
-        (ends (tested 2 (is_less (argument frame.old.stack 1) (argument frame.old.stack 0)) frame.old.stack)) result l l }
+        (ends (tested 2 (is_less (argument frame.old.stack 1)
+        (argument frame.old.stack 0)) frame.old.stack)) result l l }
     ensures rest { OnOk result (SameRest frame.old frame.new) }
 {
     let b = frame.pop_int();
@@ -127,7 +134,8 @@ pub(crate) fn lt(frame: &mut Frame) -> Result<(), Trouble>
 pub(crate) fn le(frame: &mut Frame) -> Result<(), Trouble>
     requires { Over IsInt (Over IsInt Rest) frame.old.stack }
     ensures does { (l : LocalView) → DoesAs (λ _. frame.new.stack)
-        (ends (tested 2 (is_at_most (argument frame.old.stack 1) (argument frame.old.stack 0)) frame.old.stack)) result l l }
+        (ends (tested 2 (is_at_most (argument frame.old.stack 1)
+        (argument frame.old.stack 0)) frame.old.stack)) result l l }
     ensures rest { OnOk result (SameRest frame.old frame.new) }
 {
     let b = frame.pop_int();
@@ -139,7 +147,8 @@ pub(crate) fn le(frame: &mut Frame) -> Result<(), Trouble>
 pub(crate) fn eq(frame: &mut Frame) -> Result<(), Trouble>
     requires { Over Any (Over Any Rest) frame.old.stack }
     ensures does { (l : LocalView) → DoesAs (λ _. frame.new.stack)
-        (ends (tested 2 (are_equal (argument frame.old.stack 1) (argument frame.old.stack 0)) frame.old.stack)) result l l }
+        (ends (tested 2 (are_equal (argument frame.old.stack 1)
+        (argument frame.old.stack 0)) frame.old.stack)) result l l }
     ensures rest { OnOk result (SameRest frame.old frame.new) }
 {
     let b = frame.pop();
@@ -151,7 +160,8 @@ pub(crate) fn eq(frame: &mut Frame) -> Result<(), Trouble>
 pub(crate) fn not(frame: &mut Frame) -> Result<(), Trouble>
     requires { Over IsBool Rest frame.old.stack }
     ensures does { (l : LocalView) → DoesAs (λ _. frame.new.stack)
-        (ends (tested 1 (opposite (truth (argument frame.old.stack 0))) frame.old.stack)) result l l }
+        (ends (tested 1 (opposite (truth
+        (argument frame.old.stack 0))) frame.old.stack)) result l l }
     ensures rest { OnOk result (SameRest frame.old frame.new) }
 {
     let b = frame.pop_bool();

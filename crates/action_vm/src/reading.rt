@@ -23,7 +23,8 @@ use std::alloc::Global;
 pub(crate) fn get<T: Local>(local: &T, frame: &mut Frame, f: u16) -> Result<(), Trouble>
     requires reference { Over IsReference Rest frame.old.stack }
     requires served { CanGet (T.view local.now) f frame.old.stack }
-    ensures does { DoesAs (λ _. frame.new.stack) (fetched f frame.old.stack) result (T.view local.now)
+    ensures does { DoesAs (λ _. frame.new.stack) (fetched f frame.old.stack) result
+        (T.view local.now)
         (T.view local.now) }
     ensures rest { OnOk result (SameRest frame.old frame.new) }
 {
@@ -40,7 +41,8 @@ pub(crate) fn get<T: Local>(local: &T, frame: &mut Frame, f: u16) -> Result<(), 
 pub(crate) fn set_field<T: Local>(local: &mut T, frame: &mut Frame, f: u16) -> Result<(), Trouble>
     requires reference { Over Any (Over IsReference Rest) frame.old.stack }
     requires served { CanSet (T.view local.old) f frame.old.stack }
-    ensures does { DoesAs (λ _. frame.new.stack) (written f frame.old.stack) result (T.view local.old)
+    ensures does { DoesAs (λ _. frame.new.stack) (written f frame.old.stack) result
+        (T.view local.old)
         (T.view local.new) }
     ensures rest { OnOk result (SameRest frame.old frame.new) }
 {
@@ -59,7 +61,8 @@ pub(crate) fn peek<T: Local>(
 ) -> Result<(), Trouble>
     requires { IsServed (T.view local.now) (Front buffer) }
     ensures does { DoesAs (λ _. fields_at (T.view local.now) inner.new)
-        (opened buffer (fields_at (T.view local.now) inner.old)) result (T.view local.now) (T.view local.now) }
+        (opened buffer (fields_at (T.view local.now) inner.old)) result (T.view local.now)
+        (T.view local.now) }
     ensures places { IfOk result (λ _. HasPlaces (T.view local.now) inner.old
         → HasPlaces (T.view local.now) inner.new) }
 {
@@ -70,7 +73,8 @@ pub(crate) fn peek<T: Local>(
 
 // A field on top, if it is there.
 fn push_field(frame: &mut Frame, v: Option<&Value>) -> Result<(), Trouble>
-    ensures does { (fields : List Value) (f : ℕ) (l : LocalView) → option_copied v.entry ≡ slice_get fields f
+    ensures does { (fields : List Value) (f : ℕ)
+        (l : LocalView) → option_copied v.entry ≡ slice_get fields f
         → DoesAs (λ _. frame.new.stack) (read_of fields f frame.old.stack) result l l }
     ensures rest { OnOk result (SameRest frame.old frame.new) }
 {
@@ -124,7 +128,8 @@ pub(crate) fn new(
 /// A field of the innermost message that is made, on top.
 pub(crate) fn outfield(made: &Stack<Fields>, frame: &mut Frame, f: u16) -> Result<(), Trouble>
     requires { 0 < length made.now }
-    ensures does { (l : LocalView) → DoesAs (λ _. frame.new.stack) (read_of (innermost made.now) f frame.old.stack)
+    ensures does { (l : LocalView) → DoesAs (λ _. frame.new.stack) (read_of
+        (innermost made.now) f frame.old.stack)
         result l l }
     ensures rest { OnOk result (SameRest frame.old frame.new) }
 {
@@ -141,7 +146,8 @@ pub(crate) fn setout(made: &mut Stack<Fields>, frame: &mut Frame, f: u16) -> Res
     requires message { 0 < length made.old }
     ensures stack { OnOk result (frame.new.stack ≡ drop 1 frame.old.stack) }
     ensures rest { OnOk result (SameRest frame.old frame.new) }
-    ensures made { OnOk result (made.new ≡ slice_set (innermost made.old) f (argument frame.old.stack 0) ∷ drop 1 made.old) }
+    ensures made { OnOk result (made.new ≡ slice_set (innermost made.old) f
+        (argument frame.old.stack 0) ∷ drop 1 made.old) }
 {
     let v = frame.pop();
     let mut fields = match made.pop() {
@@ -163,7 +169,8 @@ pub(crate) fn send_out<T: Local>(
     requires latency { Over IsInt Rest frame.old.stack }
     requires message { 0 < length made.old }
     requires served { CanSend (T.view local.old) buffer (innermost made.old) frame.old.stack }
-    ensures does { DoesAs itself (act (Send buffer (number (argument frame.old.stack 0)) (innermost made.old)))
+    ensures does { DoesAs itself (act (Send buffer (number (argument frame.old.stack 0))
+        (innermost made.old)))
         result (T.view local.old) (T.view local.new) }
     ensures stack { OnOk result (frame.new.stack ≡ drop 1 frame.old.stack) }
     ensures rest { OnOk result (SameRest frame.old frame.new) }

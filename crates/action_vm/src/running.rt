@@ -45,7 +45,8 @@ fn step<T: Local>(
     requires body { slice_get p.now.bodies body ≡ Some c.now }
     requires at { IsAt p.now body c.now at (own frame.old messages.old) (T.view local.old) }
     ensures does { DoesAs (step_of (T.view local.old) (own frame.new messages.new))
-        (code_at p.now body c.now at (held_of (T.view local.old) (own frame.old messages.old))) result
+        (code_at p.now body c.now at (held_of (T.view local.old)
+        (own frame.old messages.old))) result
         (T.view local.old) (T.view local.new) }
     ensures places { OnOk result (HasPlaces (T.view local.old) messages.new.inner) }
     ensures under { OnOk result (frame.new.under ≡ frame.old.under) }
@@ -105,7 +106,8 @@ fn run<T: Local>(
     local: &mut T,
 ) -> Result<Ended, Trouble>
     requires fits { Fits p.now }
-    requires call { IsCallOn p.now (slice_get p.now.bodies body) frame.old.stack (T.view local.old) }
+    requires call { IsCallOn p.now (slice_get p.now.bodies body) frame.old.stack
+        (T.view local.old) }
     ensures does { let count = argument_count (slice_get p.now.bodies body) in
         DoesAs (λ e. end_of e frame.new.stack)
         (run_body p.now body (arguments_on count frame.old.stack)) result

@@ -23,7 +23,8 @@ pub(crate) fn field<'a, T: Local>(local: &'a T, r: &Ref, field: u16) -> Result<&
 #[tactic(auto, using(acts::proofs::Calls::calls_of_acts))]
 pub(crate) fn set<T: Local>(local: &mut T, r: &Ref, field: u16, value: Value) -> Result<(), Trouble>
     requires { IsServed (T.view local.old) (Set r.now field value) }
-    ensures { DoesAs itself (act (Set r.now field value)) result (T.view local.old) (T.view local.new) }
+    ensures { DoesAs itself (act (Set r.now field value)) result (T.view local.old)
+        (T.view local.new) }
 {
     local.set(r, field, value)
 }
@@ -51,7 +52,8 @@ pub(crate) fn send<T: Local>(
     fields: Fields,
 ) -> Result<(), Trouble>
     requires { IsServed (T.view local.old) (Send buffer latency fields) }
-    ensures { DoesAs itself (act (Send buffer latency fields)) result (T.view local.old) (T.view local.new) }
+    ensures { DoesAs itself (act (Send buffer latency fields)) result (T.view local.old)
+        (T.view local.new) }
 {
     local.send(buffer, latency, fields)
 }

@@ -45,8 +45,10 @@ pub(crate) fn turn<T: Local>(
     requires call { IsNoCall i.now }
     requires needs { Needs (T.view local.old) c.now i.now (own frame.old messages.old) }
     requires places { HasPlaces (T.view local.old) messages.old.inner }
-    ensures does { (calls : Bodies) → DoesAs (step_of (T.view local.old) (own frame.new messages.new))
-        (code_step p.now c.now calls i.now (held_of (T.view local.old) (own frame.old messages.old)))
+    ensures does { (calls : Bodies) → DoesAs (step_of (T.view local.old)
+        (own frame.new messages.new))
+        (code_step p.now c.now calls i.now (held_of (T.view local.old)
+        (own frame.old messages.old)))
         result (T.view local.old) (T.view local.new) }
     ensures places { OnOk result (HasPlaces (T.view local.old) messages.new.inner) }
     ensures under { OnOk result (frame.new.under ≡ frame.old.under) }

@@ -21,7 +21,8 @@ fn big(v: Value) -> Value
 // Sees to it that there is something at a place.
 fn pad(apart: &mut Vec<Value>, at: usize) -> Result<(), NoMemory>
     ensures there { OnOk result (at < length apart.new.items) }
-    ensures same { OnOk result ((k : ℕ) → value_at apart.new.items k ≡ value_at apart.old.items k) }
+    ensures same { OnOk result
+        ((k : ℕ) → value_at apart.new.items k ≡ value_at apart.old.items k) }
 {
     while apart.len() <= at {
         apart.push(Value::Bool(false))?;

@@ -263,7 +263,8 @@ impl Frame {
 
     // Puts the values on top that locals of these kinds begin with.
     fn push_defaults(&mut self, alloc: Global, kinds: &[Kind]) -> Result<(), NoMemory>
-        ensures stack { OnOk result (self.new.stack ≡ reverse (map default_value kinds.now) ++ self.old.stack) }
+        ensures stack { OnOk result (self.new.stack ≡ reverse
+            (map default_value kinds.now) ++ self.old.stack) }
         ensures rest { OnOk result (SameRest self.old self.new) }
     {
         for kind in kinds {
