@@ -1,5 +1,5 @@
 -- What the arms of the machine do, as steps.
-use Rattle.std.proofs.Common.{◌≡◌, ℕ, ℤ, All, Option, None, Some, List, [], ◌∷◌, Result, Ok, Err, IsErrAnd, slice_get, unwrap_or, refl, sym, ap, subst, ◌∙◌}
+use Rattle.std.proofs.Common.{◌≡◌, ℕ, ℤ, All, Option, None, Some, List, [], ◌∷◌, Result, Ok, Err, IsErrAnd, OnOk, slice_get, unwrap_or, refl, sym, ap, subst, ◌∙◌}
 use Rattle.std.proofs.lemmas.List.Elements.{All-nil, All-tail}
 use Rattle.std.specs.Borrow.{Bor}
 use Rattle.ruby_value.specs.declared.fault.Fault.TheVariants as fault
@@ -18,27 +18,35 @@ use Rattle.acts.specs.Prelude.{Acting, ends, ◌>>=◌, ◌>>◌, DoesAs, act as
 use Rattle.acts.proofs.Walk.{and_does, and_stops, does_ends_as, does_stops, found_does, found_stops, then_does, then_stops}
 use Rattle.built_in_acts.specs.Prelude.{argument, difference, field_of, negation, product, reference, sum, with_field}
 use Rattle.code_meaning.specs.Prelude.{On, Step, fetched, innermost, multiplied, negated, on_stack, read_of, subtracted, summed, with_number, written}
-use Rattle.action_vm.specs.declared.frame.Frame.{Frame}
+use Rattle.action_vm.specs.declared.frame.Messages.{Messages}
 use Rattle.action_vm.specs.declared.frame.Next.{Next}
 use Rattle.action_vm.specs.declared.frame.Next.TheVariants as next
-use Rattle.action_vm.specs.Prelude.{HasPlaces, IsOverReference, Popped, fields_at, held_of, on_of, step_of}
+use Rattle.code_frame.specs.Prelude.{IsTopReference, SameRest, Window}
+use Rattle.action_vm.specs.Prelude.{HasPlaces, IsOverReference, Own, Popped, fields_at, held_of, on_of, own, step_of}
 
 -- Of one that changes the stack alone, or the messages that are looked at.
 
-pub stack_turn : (q : Acting (List Value)) (r : Result (Unit {0}) Trouble) (o : Result Next Trouble) (f : Frame) (stack : List Value) (v w : LocalView) → DoesAs (λ (x : Unit {0}). stack) q r v w → o ≡ on_of r
-    → DoesAs (step_of v (record f { stack = stack })) (on_stack (held_of v f) q) o v w
-stack_turn q (Ok tt) o f stack v w does is =
-    subst (λ z. DoesAs (step_of v (record f { stack = stack })) (on_stack (held_of v f) q) z v w) (sym is)
-    (then_does (λ (x : Unit {0}). stack) (step_of v (record f { stack = stack })) q (λ s. ends (On (record (held_of v f) { stack = s }))) tt (Ok next.On) v w w does
-    (does_ends_as (step_of v (record f { stack = stack })) (On (held_of v (record f { stack = stack }))) next.On w refl))
-stack_turn q (Err e) o f stack v w does is =
-    subst (λ z. DoesAs (step_of v (record f { stack = stack })) (on_stack (held_of v f) q) z v w) (sym is)
-    (then_stops (λ (x : Unit {0}). stack) (step_of v (record f { stack = stack })) q (λ s. ends (On (record (held_of v f) { stack = s }))) e v w w does)
+pub own_same : (old new : Window) (messages : Messages) → SameRest old new → record (own old messages) { stack = new.stack } ≡ own new messages
+own_same old new messages rest = let L : List Value → Own = λ l. record { stack = new.stack; locals = l; inner = messages.inner; made = messages.made } in ap L (sym rest.locals)
 
-abbrev inner_step : LocalView → Frame → Acting (List (List Value)) → Acting Step
+pub stack_turn : (q : Acting (List Value)) (r : Result (Unit {0}) Trouble) (o : Result Next Trouble) (old new : Window) (messages : Messages) (v w : LocalView) → DoesAs (λ (x : Unit {0}). new.stack) q r v w → OnOk r (SameRest old new) → o ≡ on_of r
+    → DoesAs (step_of v (own new messages)) (on_stack (held_of v (own old messages)) q) o v w
+stack_turn q (Ok tt) o old new messages v w does rest is =
+    subst (λ z. DoesAs (step_of v (own new messages)) (on_stack (held_of v (own old messages)) q) z v w) (sym is)
+    (then_does (λ (x : Unit {0}). new.stack) (step_of v (own new messages)) q (λ s. ends (On (record (held_of v (own old messages)) { stack = s }))) tt (Ok next.On) v w w does
+    (does_ends_as (step_of v (own new messages)) (On (record (held_of v (own old messages)) { stack = new.stack })) next.On w (ap (λ f. On (held_of v f)) (sym (own_same old new messages rest)))))
+stack_turn q (Err e) o old new messages v w does rest is =
+    subst (λ z. DoesAs (step_of v (own new messages)) (on_stack (held_of v (own old messages)) q) z v w) (sym is)
+    (then_stops (λ (x : Unit {0}). new.stack) (step_of v (own new messages)) q (λ s. ends (On (record (held_of v (own old messages)) { stack = s }))) e v w w does)
+
+pub under_kept : (r : Result (Unit {0}) Trouble) (o : Result Next Trouble) (old new : Window) → OnOk r (SameRest old new) → o ≡ on_of r → OnOk o (new.under ≡ old.under)
+under_kept (Ok tt) o old new rest is = rw is rest.under
+under_kept (Err e) o old new rest is = rw is tt
+
+abbrev inner_step : LocalView → Own → Acting (List (List Value)) → Acting Step
 inner_step v f q = q >>= (λ ms. ends (On (record (held_of v f) { inner = ms })))
 
-pub inner_turn : (q : Acting (List (List Value))) (r : Result (Unit {0}) Trouble) (o : Result Next Trouble) (f : Frame) (inner : List MessageAt) (v w : LocalView) → DoesAs (λ (x : Unit {0}). fields_at v inner) q r v w → o ≡ on_of r
+pub inner_turn : (q : Acting (List (List Value))) (r : Result (Unit {0}) Trouble) (o : Result Next Trouble) (f : Own) (inner : List MessageAt) (v w : LocalView) → DoesAs (λ (x : Unit {0}). fields_at v inner) q r v w → o ≡ on_of r
     → DoesAs (step_of v (record f { inner = inner })) (inner_step v f q) o v w
 inner_turn q (Ok tt) o f inner v w does is =
     subst (λ z. DoesAs (step_of v (record f { inner = inner })) (inner_step v f q) z v w) (sym is)
@@ -97,6 +105,12 @@ negation_does old rest new a r o l first is does =
     (ap (with_number 0 rest) is ∙ off_one (negation (value.Int a)) (value.Int a) rest ∙ sym (ap (λ (s : List Value). with_number 1 s (negation (argument s 0))) first)) does
 
 -- Fields of lines.
+
+pub over_reference : (old : List Value) (r : Option Ref) (rest : List Value) → IsTopReference old r rest → IsOverReference old r rest
+over_reference [] r rest is = absurd is
+over_reference (value.Entry held ∷ s) r rest is = is
+over_reference (value.Tbe held ∷ s) r rest is = is
+over_reference (v ∷ s) r rest is = absurd is
 
 module _ (f : ℕ) (v w : LocalView) where
   field_does : (x : Value) (r : Ref) (b : Bor Value) → reference x ≡ Some r → DoesAs lent (done (act.Get r f)) (Ok b) v v → DoesAs lent (field_of x f) (Ok b) v v

@@ -1,5 +1,5 @@
 -- What an instruction that breaks no rule needs is there.
-use Rattle.std.proofs.Common.{◌≡◌, ℕ, suc, ◌<◌, true, Option, None, Some, List, [], ◌∷◌, ◌++◌, is_some, length, slice_get, refl, ap, ◌∙◌, arith}
+use Rattle.std.proofs.Common.{◌≡◌, ℕ, suc, ◌<◌, ◌≤◌, true, Option, None, Some, List, [], ◌∷◌, ◌++◌, is_some, length, slice_get, refl, ap, ◌∙◌, arith}
 use Rattle.std.proofs.lemmas.Bool.{and_parts}
 use Rattle.std.proofs.lemmas.Option.{slice_get_within}
 use Rattle.std.specs.Option.{option_map}
@@ -9,12 +9,13 @@ use Rattle.ruby_value.specs.declared.value.Value.{Value}
 use Rattle.ruby_value.specs.declared.value.Value.TheVariants as value
 use Rattle.ruby_value.specs.Prelude.{has_kind, is_reference}
 use Rattle.ctl_face.specs.declared.message_at.MessageAt.{MessageAt}
-use Rattle.ctl_face.specs.Prelude.{LocalView}
+use Rattle.ctl_face.specs.Prelude.{IsLawful, LocalView}
 use Rattle.action_code.specs.declared.instr.Code.{Code}
 use Rattle.action_code.specs.declared.instr.Instr.{Instr}
 use Rattle.action_code.specs.declared.instr.Instr.TheVariants as instr
 use Rattle.action_code.specs.declared.operand.Operand.{Operand}
 use Rattle.action_code.specs.declared.operand.Operand.TheVariants as operand
+use Rattle.action_code.specs.declared.operations.Operation.{Operation}
 use Rattle.action_code.specs.declared.program.BufferDecl.{BufferDecl}
 use Rattle.action_code.specs.declared.program.MachineDecl.{MachineDecl}
 use Rattle.action_code.specs.declared.program.Program.{Program}
@@ -22,11 +23,12 @@ use Rattle.action_code.specs.declared.program.TableDecl.{TableDecl}
 use Rattle.action_code.specs.declared.program.TableSort.{TableSort}
 use Rattle.action_code.specs.declared.program.TableSort.TheVariants as sort
 use Rattle.action_code.specs.declared.shape.Shape.{Shape}
-use Rattle.action_code.specs.Prelude.{KeepsRules, Way, accepts, bare, buffer_at, can_send, field_of, is_reference_to, local_kind, machine_of, operands_fit, result_operand, sign, tables_of, wanted}
-use Rattle.code_meaning.specs.Prelude.{IsTyped, are_messages, are_of_kinds, is_of_kind}
+use Rattle.action_code.specs.Prelude.{KeepsRules, Way, accepts, bare, buffer_at, can_send, field_of, is_reference_to, local_kind, machine_of, operands_fit, operation_sign, operations, result_operand, sign, tables_of, wanted}
+use Rattle.code_meaning.specs.Prelude.{IsDeclared, IsTyped, are_messages, are_of_kinds, arity, is_of_kind}
 use Rattle.code_meaning.proofs.OfKind.{as_long, equal_is}
-use Rattle.action_vm.specs.declared.frame.Frame.{Frame}
-use Rattle.action_vm.specs.Prelude.{Any, IsAddress, IsBool, IsInt, IsReference, Needs, NeedsResult, Over, Rest, fields_at, held_of}
+use Rattle.action_vm.proofs.Serving.{can_get, can_peek, can_send_it, can_set}
+use Rattle.code_frame.specs.Prelude.{Any, IsAddress, IsBool, IsInt, IsReference, Over, Rest}
+use Rattle.action_vm.specs.Prelude.{Needs, NeedsResult, Own, fields_at, held_of}
 
 -- Values of a sort.
 
@@ -150,7 +152,11 @@ sent_open : (o : Option ℕ) (b : Option BufferDecl) → can_send o b ≡ true �
 sent_open None b h = absurd (cc h)
 sent_open (Some n) b h = refl
 
-module _ (p : Program) (body : ℕ) (c : Code) (s : Shape) (f : Frame) (v : LocalView) (typed : IsTyped p c s (held_of v f)) where
+op_long : (m : Option MachineDecl) (on : ℕ) (o : Option Operation) (n : ℕ) → length (operation_sign m on o).takes ≤ n → arity o ≤ n
+op_long m on None n h = h
+op_long m on (Some o) n h = h
+
+module _ (p : Program) (body : ℕ) (c : Code) (s : Shape) (f : Own) (v : LocalView) (typed : IsTyped p c s (held_of v f)) where
   local_known : (n : ℕ) → is_some (local_kind c n) ≡ true → n < length f.locals
   local_known n known =
       local_there (c.arguments ++ c.locals) f.locals n (slice_get (c.arguments ++ c.locals) n) refl known (as_long (tables_of (machine_of p c)) (c.arguments ++ c.locals) f.locals typed.locals)
@@ -159,36 +165,37 @@ module _ (p : Program) (body : ℕ) (c : Code) (s : Shape) (f : Frame) (v : Loca
   result_found None fit = tt
   result_found (Some k) fit = one_any (machine_of p c) 0 (operand.Value k) s.stack f.stack fit typed.stack
 
-  pub ready : (at : ℕ) (ways : List Way) (i : Instr) → KeepsRules p c at ways s (sign p body c s i) i → Needs c i f
-  ready at ways (instr.Push x n) k = tt
-  ready at ways (instr.Load n) k = local_known n k.names_what_is_served
-  ready at ways (instr.Store n) k = (one_any (machine_of p c) 0 (wanted (local_kind c n)) s.stack f.stack k.operands_have_their_kinds typed.stack, local_known n k.names_what_is_served)
-  ready at ways instr.Add k = two_ints (machine_of p c) 0 s.stack f.stack k.operands_have_their_kinds typed.stack
-  ready at ways instr.Sub k = two_ints (machine_of p c) 0 s.stack f.stack k.operands_have_their_kinds typed.stack
-  ready at ways instr.Mul k = two_ints (machine_of p c) 0 s.stack f.stack k.operands_have_their_kinds typed.stack
-  ready at ways instr.Neg k = one_int (machine_of p c) 0 s.stack f.stack k.operands_have_their_kinds typed.stack
-  ready at ways instr.Not k = one_bool (machine_of p c) 0 s.stack f.stack k.operands_have_their_kinds typed.stack
-  ready at ways instr.Lt k = two_ints (machine_of p c) 0 s.stack f.stack k.operands_have_their_kinds typed.stack
-  ready at ways instr.Le k = two_ints (machine_of p c) 0 s.stack f.stack k.operands_have_their_kinds typed.stack
-  ready at ways instr.Eq k = two_any (machine_of p c) 0 operand.Anything (wanted (slice_get s.stack 0)) s.stack f.stack k.operands_have_their_kinds typed.stack
-  ready at ways (instr.Jump to) k = tt
-  ready at ways (instr.Unless to) k = one_bool (machine_of p c) 0 s.stack f.stack k.operands_have_their_kinds typed.stack
-  ready at ways (instr.Get field) k = one_reference (machine_of p c) 0 s.stack f.stack k.operands_have_their_kinds typed.stack
-  ready at ways (instr.Set field) k = any_over_reference (machine_of p c) 0 _ s.stack f.stack k.operands_have_their_kinds typed.stack
-  ready at ways (instr.Peek buffer) k = tt
-  ready at ways (instr.Infield field) k =
+  pub ready : IsLawful v → IsDeclared p (machine_of p c) v.machine → (at : ℕ) (ways : List Way) (i : Instr) → KeepsRules p c at ways s (sign p body c s i) i → Needs v c i f
+  ready lawful declared at ways (instr.Push x n) k = tt
+  ready lawful declared at ways (instr.Load n) k = local_known n k.names_what_is_served
+  ready lawful declared at ways (instr.Store n) k = (one_any (machine_of p c) 0 (wanted (local_kind c n)) s.stack f.stack k.operands_have_their_kinds typed.stack, local_known n k.names_what_is_served)
+  ready lawful declared at ways instr.Add k = two_ints (machine_of p c) 0 s.stack f.stack k.operands_have_their_kinds typed.stack
+  ready lawful declared at ways instr.Sub k = two_ints (machine_of p c) 0 s.stack f.stack k.operands_have_their_kinds typed.stack
+  ready lawful declared at ways instr.Mul k = two_ints (machine_of p c) 0 s.stack f.stack k.operands_have_their_kinds typed.stack
+  ready lawful declared at ways instr.Neg k = one_int (machine_of p c) 0 s.stack f.stack k.operands_have_their_kinds typed.stack
+  ready lawful declared at ways instr.Not k = one_bool (machine_of p c) 0 s.stack f.stack k.operands_have_their_kinds typed.stack
+  ready lawful declared at ways instr.Lt k = two_ints (machine_of p c) 0 s.stack f.stack k.operands_have_their_kinds typed.stack
+  ready lawful declared at ways instr.Le k = two_ints (machine_of p c) 0 s.stack f.stack k.operands_have_their_kinds typed.stack
+  ready lawful declared at ways instr.Eq k = two_any (machine_of p c) 0 operand.Anything (wanted (slice_get s.stack 0)) s.stack f.stack k.operands_have_their_kinds typed.stack
+  ready lawful declared at ways (instr.Jump to) k = tt
+  ready lawful declared at ways (instr.Unless to) k = one_bool (machine_of p c) 0 s.stack f.stack k.operands_have_their_kinds typed.stack
+  ready lawful declared at ways (instr.Get field) k = (one_reference (machine_of p c) 0 s.stack f.stack k.operands_have_their_kinds typed.stack, can_get p (machine_of p c) v lawful declared s.stack f.stack field k.operands_have_their_kinds typed.stack k.names_what_is_served)
+  ready lawful declared at ways (instr.Set field) k = (any_over_reference (machine_of p c) 0 _ s.stack f.stack k.operands_have_their_kinds typed.stack, can_set p (machine_of p c) v lawful declared s.stack f.stack field k.operands_have_their_kinds typed.stack k.names_what_is_served)
+  ready lawful declared at ways (instr.Peek buffer) k = can_peek p (machine_of p c) v lawful declared buffer k.names_what_is_served
+  ready lawful declared at ways (instr.Infield field) k =
       let open_there : 0 < length (fields_at v f.inner) = message_open p (tables_of (machine_of p c)) s.inner (fields_at v f.inner) field typed.inner k.names_what_is_served in
       omega (arith, open_there, places_long v f.inner)
-  ready at ways instr.Unpeek k = tt
-  ready at ways (instr.New message) k = tt
-  ready at ways (instr.Outfield field) k = message_open p (tables_of (machine_of p c)) s.made f.made field typed.made k.names_what_is_served
-  ready at ways (instr.Setout field) k = (one_any (machine_of p c) 0 _ s.stack f.stack k.operands_have_their_kinds typed.stack, message_open p (tables_of (machine_of p c)) s.made f.made field typed.made k.names_what_is_served)
-  ready at ways (instr.Send buffer) k = (
+  ready lawful declared at ways instr.Unpeek k = tt
+  ready lawful declared at ways (instr.New message) k = tt
+  ready lawful declared at ways (instr.Outfield field) k = message_open p (tables_of (machine_of p c)) s.made f.made field typed.made k.names_what_is_served
+  ready lawful declared at ways (instr.Setout field) k = (one_any (machine_of p c) 0 _ s.stack f.stack k.operands_have_their_kinds typed.stack, message_open p (tables_of (machine_of p c)) s.made f.made field typed.made k.names_what_is_served)
+  ready lawful declared at ways (instr.Send buffer) k = (
     one_int (machine_of p c) 0 s.stack f.stack k.operands_have_their_kinds typed.stack,
     made_open p (tables_of (machine_of p c)) s.made f.made typed.made (sent_open (slice_get s.made 0) (buffer_at (machine_of p c) buffer) k.names_what_is_served),
+    can_send_it p (machine_of p c) v lawful declared s.made f.made buffer f.stack typed.made k.names_what_is_served,
   )
-  ready at ways (instr.Op n on) k = tt
-  ready at ways (instr.Call n) k = tt
-  ready at ways (instr.Trigger event) k = for_event (machine_of p c) 0 s.stack f.stack k.operands_have_their_kinds typed.stack
-  ready at ways (instr.Stop fault) k = tt
-  ready at ways instr.Ret k = result_found c.result k.operands_have_their_kinds
+  ready lawful declared at ways (instr.Op n on) k = op_long (machine_of p c) on (slice_get operations n) (length f.stack) (omega (arith, k.operands_are_there, as_long (tables_of (machine_of p c)) s.stack f.stack typed.stack))
+  ready lawful declared at ways (instr.Call n) k = tt
+  ready lawful declared at ways (instr.Trigger event) k = for_event (machine_of p c) 0 s.stack f.stack k.operands_have_their_kinds typed.stack
+  ready lawful declared at ways (instr.Stop fault) k = tt
+  ready lawful declared at ways instr.Ret k = result_found c.result k.operands_have_their_kinds

@@ -1,8 +1,10 @@
 -- A run goes from one instruction to the next: what is left of it is the same, and so is what is known of it.
-use Rattle.std.proofs.Common.{◌≡◌, ℕ, zero, suc, ◌+◌, ◌-◌, ◌<◌, ◌==◌, true, All, IsErrAnd, IsSome, Option, None, Some, List, [], ◌∷◌, ◌++◌, Result, Ok, Err, drop, length, map, nat_lt, reverse, slice_get, take, refl, sym, ap, subst, ◌∙◌, arith, unwrap_or}
+use Rattle.std.proofs.Common.{◌≡◌, ℕ, zero, suc, ◌+◌, ◌-◌, ◌<◌, ◌≤◌, ◌==◌, true, All, IfOk, IsErrAnd, IsSome, Option, None, Some, List, [], ◌∷◌, ◌++◌, Result, Ok, Err, drop, length, length-append, map, nat_lt, reverse, slice_get, take, refl, sym, ap, subst, ◌∙◌, arith, unwrap_or}
 use Rattle.std.proofs.lemmas.Bool.{and_parts, eqb-true, ltb-true}
+use Rattle.std.proofs.lemmas.List.{length-reverse, reverse-reverse, take_at}
 use Rattle.std.proofs.lemmas.List.Elements.{All-nil}
 use Rattle.ruby_value.specs.declared.fault.Fault.{Fault}
+use Rattle.ruby_value.specs.declared.kind.Kind.{Kind}
 use Rattle.ruby_value.specs.declared.value.Value.{Value}
 use Rattle.ruby_value.specs.Prelude.{default_value}
 use Rattle.ctl_face.specs.declared.message_at.MessageAt.{MessageAt}
@@ -12,26 +14,34 @@ use Rattle.ctl_face.specs.Prelude.{Ctl, IsLawful, IsPlace, LocalView, SameScan}
 use Rattle.ctl_face.specs.Places.{message_in}
 use Rattle.acts.specs.Prelude.{Acting, DoesAs, HoldsAfter, ends, ◌>>=◌, follow as follow_done, itself, no_message, run}
 use Rattle.acts.proofs.Instances.{stays_in_scan}
+use Rattle.built_in_acts.specs.Prelude.{argument}
 use Rattle.acts.proofs.Walk.{does_ends_as, run-then, then_does, then_stops}
 use Rattle.action_code.specs.declared.instr.Code.{Code}
 use Rattle.action_code.specs.declared.instr.Instr.{Instr}
 use Rattle.action_code.specs.declared.instr.Instr.TheVariants as instr
+use Rattle.action_code.specs.declared.operand.Operand.TheVariants as operand
 use Rattle.action_code.specs.declared.program.Program.{Program}
+use Rattle.action_code.specs.declared.program.TableDecl.{TableDecl}
 use Rattle.action_code.specs.Prelude.{Fits, KeepsRules, call_sign, machine_of, operands_fit, shape_after, shape_before, sign, tables_of, ways_before}
 use Rattle.action_code.proofs.EachPlaces.{each_place_from}
 use Rattle.action_code.proofs.Steps.{there}
 use Rattle.code_meaning.specs.declared.code_end.CodeEnd.{CodeEnd}
 use Rattle.code_meaning.specs.declared.code_end.CodeEnd.TheVariants as code_end
-use Rattle.code_meaning.specs.Prelude.{Held, IsDeclared, IsTyped, On, Over as Ended, Step, To, are_of_kinds, argument_count, arguments_on, bodies_below, called, code_step, enter, entered, exec, follow, run_body}
-use Rattle.code_meaning.proofs.Bodies.{below_is, calls_end}
+use Rattle.code_meaning.specs.Prelude.{Held, IsDeclared, IsTyped, On, Over as Ends, Step, To, are_of_kinds, argument_count, arguments_on, bodies_below, called, code_step, enter, entered, exec, follow, is_end_of, run_body}
+use Rattle.code_meaning.proofs.Bodies.{below_is, calls_end, run_ends}
 use Rattle.code_meaning.specs.Answers.{HoldsOfAnswer as Holds}
+use Rattle.code_meaning.proofs.OfKind.{as_long}
 use Rattle.code_meaning.proofs.Places.{goes_on, jumps}
 use Rattle.code_meaning.proofs.Turns.{Turned, arguments_are, leads}
 use Rattle.code_meaning.proofs.Typed.{begins_typed, same_typed}
-use Rattle.action_vm.specs.declared.frame.Frame.{Frame}
+use Rattle.action_vm.specs.declared.frame.Ended.{Ended}
+use Rattle.action_vm.specs.declared.frame.Ended.TheVariants as ended
 use Rattle.action_vm.specs.declared.frame.Next.{Next}
 use Rattle.action_vm.specs.declared.frame.Next.TheVariants as next
-use Rattle.action_vm.specs.Prelude.{CalledAs, EndsAs, HasPlaces, IsAt, IsCallOf, IsNoCall, MayRun, Needs, code_at, fields_at, held_of, outcome, place_after, step_at, step_of}
+use Rattle.code_frame.specs.declared.mark.Mark.{Mark}
+use Rattle.code_frame.specs.Prelude.{Any, IsMark, Over, Rest, Window, begun}
+use Rattle.action_vm.specs.declared.frame.Messages.{Messages}
+use Rattle.action_vm.specs.Prelude.{EndsAs, EndsOfKind, HasPlaces, HasResult, IsAt, IsCallOf, IsCallOn, IsNoCall, MayRun, Needs, Own, called_next, code_answer, code_at, end_of, fields_at, held_of, left_by, outcome, own, place_after, step_at, step_of}
 use Rattle.action_vm.proofs.Ready.{ready}
 
 -- The same frame means the same in a later local of the scan.
@@ -41,7 +51,7 @@ fields_stay v w scan places =
     let P : Ctl → List (List Value) = λ s. map (λ at. (unwrap_or (message_in s.mail at) no_message).fields) places in
     ap P scan.start
 
-held_stays : (v w : LocalView) → SameScan v w → (f : Frame) → held_of v f ≡ held_of w f
+held_stays : (v w : LocalView) → SameScan v w → (f : Own) → held_of v f ≡ held_of w f
 held_stays v w scan f = let P : List (List Value) → Held = λ ms. record { stack = f.stack; locals = f.locals; inner = ms; made = f.made } in ap P (sym (fields_stay v w scan f.inner))
 
 -- Skipping.
@@ -74,7 +84,7 @@ module _ (p : Program) (fits : Fits p) (body : ℕ) (c : Code) (found : slice_ge
   abbrev pub rest_at : ℕ → Held → Acting CodeEnd
   rest_at at h = exec p c (bodies_below p body) (drop at c.instructions) at 0 h
 
-  module _ (at : ℕ) (f : Frame) (v : LocalView) (is : IsAt p body c at f v) where
+  module _ (at : ℕ) (f : Own) (v : LocalView) (is : IsAt p body c at f v) where
     pub there_is : (i : Instr) × (slice_get c.instructions at ≡ Some i)
     there_is = there c.instructions at is.within
 
@@ -82,8 +92,8 @@ module _ (p : Program) (fits : Fits p) (body : ℕ) (c : Code) (found : slice_ge
       pub rules : KeepsRules p c at (ways_before p body c at) (shape_before p body c at) (sign p body c (shape_before p body c at) i) i
       rules = let all = each_place_from p fits body c found in all.each at i here
 
-      pub needs : Needs c i f
-      needs = ready p body c (shape_before p body c at) f v is.typed at (ways_before p body c at) i rules
+      pub needs : IsLawful v → Needs v c i f
+      needs lawful = ready p body c (shape_before p body c at) f v is.typed lawful is.machine at (ways_before p body c at) i rules
 
       -- what it leads to
       turned : IsLawful v → Holds (Turned p body c v.machine is.machine (bodies_below p body) i (shape_after p c (shape_before p body c at) i (sign p body c (shape_before p body c at) i))) (run (code_step p c (bodies_below p body) i (held_of v f)) v)
@@ -109,7 +119,7 @@ module _ (p : Program) (fits : Fits p) (body : ℕ) (c : Code) (found : slice_ge
           → run (rest_at at (held_of v f)) v ≡ run (follow at (λ skip after. exec p c (bodies_below p body) (drop (at + 1) c.instructions) (at + 1) skip after) step) w
       rest_after step w does = rest_is ∙ ap (λ r. follow_done r (λ x w. run (follow at (λ skip after. exec p c (bodies_below p body) (drop (at + 1) c.instructions) (at + 1) skip after) x) w)) does
 
-      later : (to : ℕ) (g : Frame) (w : LocalView) → at < to → SameScan v w → HasPlaces v g.inner → to < length c.instructions → IsTyped p c (shape_before p body c to) (held_of v g) → IsAt p body c to g w
+      later : (to : ℕ) (g : Own) (w : LocalView) → at < to → SameScan v w → HasPlaces v g.inner → to < length c.instructions → IsTyped p c (shape_before p body c to) (held_of v g) → IsAt p body c to g w
       later to g w forward scan places within typed = record {
         within = within;
         typed = subst (IsTyped p c (shape_before p body c to)) (held_stays v w scan g) typed;
@@ -118,7 +128,7 @@ module _ (p : Program) (fits : Fits p) (body : ℕ) (c : Code) (found : slice_ge
       }
 
       -- to the next instruction
-      pub moves_on : (g : Frame) (w : LocalView) → IsLawful v → run (code_step p c (bodies_below p body) i (held_of v f)) v ≡ Ok (record { value = On (held_of v g); view = w }) → HasPlaces v g.inner
+      pub moves_on : (g : Own) (w : LocalView) → IsLawful v → run (code_step p c (bodies_below p body) i (held_of v f)) v ≡ Ok (record { value = On (held_of v g); view = w }) → HasPlaces v g.inner
           → IsAt p body c (at + 1) g w × (run (rest_at at (held_of v f)) v ≡ run (rest_at (at + 1) (held_of w g)) w)
       moves_on g w lawful does places =
           let t = after_is (On (held_of v g)) w lawful does in
@@ -129,7 +139,7 @@ module _ (p : Program) (fits : Fits p) (body : ℕ) (c : Code) (found : slice_ge
           )
 
       -- to a later one
-      pub jumps_to : (to : ℕ) (g : Frame) (w : LocalView) → IsLawful v → run (code_step p c (bodies_below p body) i (held_of v f)) v ≡ Ok (record { value = To to (held_of v g); view = w }) → HasPlaces v g.inner
+      pub jumps_to : (to : ℕ) (g : Own) (w : LocalView) → IsLawful v → run (code_step p c (bodies_below p body) i (held_of v f)) v ≡ Ok (record { value = To to (held_of v g); view = w }) → HasPlaces v g.inner
           → (at < to) × IsAt p body c to g w × (run (rest_at at (held_of v f)) v ≡ run (rest_at to (held_of w g)) w)
       jumps_to to g w lawful does places =
           let t = after_is (To to (held_of v g)) w lawful does in
@@ -145,17 +155,17 @@ module _ (p : Program) (fits : Fits p) (body : ℕ) (c : Code) (found : slice_ge
           )
 
       -- to an end
-      pub comes_to_end : (end : CodeEnd) (w : LocalView) → run (code_step p c (bodies_below p body) i (held_of v f)) v ≡ Ok (record { value = Ended end; view = w })
+      pub comes_to_end : (end : CodeEnd) (w : LocalView) → run (code_step p c (bodies_below p body) i (held_of v f)) v ≡ Ok (record { value = Ends end; view = w })
           → run (rest_at at (held_of v f)) v ≡ Ok (record { value = end; view = w })
       unfolding run
-      comes_to_end end w does = rest_after (Ended end) w does
+      comes_to_end end w does = rest_after (Ends end) w does
 
       pub stops_there : (fault : Fault) → run (code_step p c (bodies_below p body) i (held_of v f)) v ≡ Err fault → run (rest_at at (held_of v f)) v ≡ Err fault
       stops_there fault does = rest_is ∙ ap (λ r. follow_done r (λ x w. run (follow at (λ skip after. exec p c (bodies_below p body) (drop (at + 1) c.instructions) (at + 1) skip after) x) w)) does
 
 -- As a body begins.
 
-pub begins_at : (p : Program) (fits : Fits p) (body : ℕ) (c : Code) (found : slice_get p.bodies body ≡ Some c) (arguments : List Value) (f : Frame) (v : LocalView) → MayRun p c arguments v
+pub begins_at : (p : Program) (fits : Fits p) (body : ℕ) (c : Code) (found : slice_get p.bodies body ≡ Some c) (arguments : List Value) (f : Own) (v : LocalView) → MayRun p c arguments v
     → held_of v f ≡ entered c arguments → f.inner ≡ [] → IsAt p body c 0 f v × (run (run_body p body arguments) v ≡ run (rest_at p fits body c found 0 (held_of v f)) v)
 unfolding run_body
 begins_at p fits body c found arguments f v may is none =
@@ -171,14 +181,14 @@ begins_at p fits body c found arguments f v may is none =
 
 -- What the code answers for an instruction, as a step.
 
-module _ (p : Program) (fits : Fits p) (body : ℕ) (c : Code) (found : slice_get p.bodies body ≡ Some c) (at : ℕ) (f : Frame) (v : LocalView) (is : IsAt p body c at f v) (lawful : IsLawful v) where
+module _ (p : Program) (fits : Fits p) (body : ℕ) (c : Code) (found : slice_get p.bodies body ≡ Some c) (at : ℕ) (f : Own) (v : LocalView) (is : IsAt p body c at f v) (lawful : IsLawful v) where
   step_is : (means : Next → Step) (n : Next) (w : LocalView) → DoesAs means (code_at p body c at (held_of v f)) (Ok n) v w
       → run (code_step p c (bodies_below p body) (there_is p fits body c found at f v is).0 (held_of v f)) v ≡ Ok (record { value = means n; view = w })
   unfolding DoesAs
   step_is means n w does = ap (λ o. run (step_at p body c o (held_of v f)) v) (sym (there_is p fits body c found at f v is).1) ∙ does
 
   -- it goes on
-  pub goes_to : (n : Next) (to : ℕ) (g : Frame) (w : LocalView) → DoesAs (step_of v g) (code_at p body c at (held_of v f)) (Ok n) v w → HasPlaces v g.inner → Ok to ≡ place_after at n
+  pub goes_to : (n : Next) (to : ℕ) (g : Own) (w : LocalView) → DoesAs (step_of v g) (code_at p body c at (held_of v f)) (Ok n) v w → HasPlaces v g.inner → Ok to ≡ place_after at n
       → IsAt p body c to g w × (at < to) × (run (rest_at p fits body c found at (held_of v f)) v ≡ run (rest_at p fits body c found to (held_of w g)) w)
   goes_to next.On to g w does places so =
       let i = there_is p fits body c found at f v is in
@@ -195,14 +205,14 @@ module _ (p : Program) (fits : Fits p) (body : ℕ) (c : Code) (found : slice_ge
   goes_to (next.Over end) to g w does places so = absurd (cc so)
 
   -- it ends
-  pub comes_to : (n : Next) (end : CodeEnd) (g : Frame) (w : LocalView) → DoesAs (step_of v g) (code_at p body c at (held_of v f)) (Ok n) v w → Err end ≡ place_after at n
-      → run (rest_at p fits body c found at (held_of v f)) v ≡ Ok (record { value = end; view = w })
+  pub comes_to : (n : Next) (end : Ended) (g : Own) (w : LocalView) → DoesAs (step_of v g) (code_at p body c at (held_of v f)) (Ok n) v w → Err end ≡ place_after at n
+      → run (rest_at p fits body c found at (held_of v f)) v ≡ Ok (record { value = end_of end g.stack; view = w })
   comes_to next.On end g w does so = absurd (cc so)
   comes_to (next.To k) end g w does so = absurd (cc so)
   comes_to (next.Over e) end g w does so =
       let i = there_is p fits body c found at f v is in
       let same : e ≡ end = cc (sym so) in
-      comes_to_end p fits body c found at f v is i.0 i.1 e w (step_is (step_of v g) (next.Over e) w does) ∙ ap (λ x. Ok (record { value = x; view = w })) same
+      comes_to_end p fits body c found at f v is i.0 i.1 (end_of e g.stack) w (step_is (step_of v g) (next.Over e) w does) ∙ ap (λ x. Ok (record { value = end_of x g.stack; view = w })) same
 
   -- it stops
   fails_by : (means : Next → Step) (fault : Fault) (w : LocalView) → DoesAs means (code_at p body c at (held_of v f)) (Err (trouble.Fault fault)) v w
@@ -212,31 +222,53 @@ module _ (p : Program) (fits : Fits p) (body : ℕ) (c : Code) (found : slice_ge
       let i = there_is p fits body c found at f v is in
       stops_there p fits body c found at f v is i.0 i.1 fault (ap (λ o. run (step_at p body c o (held_of v f)) v) (sym i.1) ∙ does)
 
-  pub fails : (means : Next → Step) (e : Trouble) (w : LocalView) (q : Acting CodeEnd) (u : LocalView) → DoesAs means (code_at p body c at (held_of v f)) (Err e) v w
-      → run (rest_at p fits body c found at (held_of v f)) v ≡ run q u → DoesAs itself q (Err e) u w
+  pub fails : (means : Next → Step) (meaning : Ended → CodeEnd) (e : Trouble) (w : LocalView) (q : Acting CodeEnd) (u : LocalView) → DoesAs means (code_at p body c at (held_of v f)) (Err e) v w
+      → run (rest_at p fits body c found at (held_of v f)) v ≡ run q u → DoesAs meaning q (Err e) u w
   unfolding DoesAs
-  fails means (trouble.Fault fault) w q u does rest = sym rest ∙ fails_by means fault w does
-  fails means trouble.NoMemory w q u does rest = tt
+  fails means meaning (trouble.Fault fault) w q u does rest = sym rest ∙ fails_by means fault w does
+  fails means meaning trouble.NoMemory w q u does rest = tt
 
-  pub ends_with : (end : CodeEnd) (w : LocalView) (q : Acting CodeEnd) (u : LocalView) → run (rest_at p fits body c found at (held_of v f)) v ≡ Ok (record { value = end; view = w })
-      → run (rest_at p fits body c found at (held_of v f)) v ≡ run q u → DoesAs itself q (Ok end) u w
+  pub ends_with : (meaning : Ended → CodeEnd) (end : Ended) (stack : List Value) (w : LocalView) (q : Acting CodeEnd) (u : LocalView) → run (rest_at p fits body c found at (held_of v f)) v ≡ Ok (record { value = end_of end stack; view = w })
+      → run (rest_at p fits body c found at (held_of v f)) v ≡ run q u → end_of end stack ≡ meaning end → DoesAs meaning q (Ok end) u w
   unfolding DoesAs
-  ends_with end w q u is_end rest = sym rest ∙ is_end
+  ends_with meaning end stack w q u is_end rest same = sym rest ∙ is_end ∙ ap (λ x. Ok (record { value = x; view = w })) same
+
+-- the result is on the stack of the body that called
+pub same_end : (end : Ended) (stack : List Value) (n : ℕ) (w new : Window) → new ≡ left_by end (argument stack 0) n w → end_of end stack ≡ end_of end new.stack
+same_end ended.Value stack n w new is = ap (λ (x : Window). code_end.Value (argument x.stack 0)) (sym is)
+same_end ended.Nothing stack n w new is = refl
+same_end (ended.Trigger event address entry tbe) stack n w new is = refl
+same_end (ended.Stop f) stack n w new is = refl
+
+pub left_itself : (end : Ended) (v : Value) (n : ℕ) (w new : Window) → new ≡ left_by end v n w → new ≡ left_by end (argument new.stack 0) n w
+left_itself ended.Value v n w new is = is ∙ ap (λ (x : Window). left_by ended.Value (argument x.stack 0) n w) (sym is)
+left_itself ended.Nothing v n w new is = is
+left_itself (ended.Trigger event address entry tbe) v n w new is = is
+left_itself (ended.Stop f) v n w new is = is
 
 -- Calls.
 
-module _ (p : Program) (fits : Fits p) (body : ℕ) (c : Code) (found : slice_get p.bodies body ≡ Some c) (at n : ℕ) (f : Frame) (v : LocalView) (is : IsAt p body c at f v)
+operands_long : (ks : List Kind) → length (reverse (map operand.Value ks)) ≡ length ks
+operands_long ks = length-reverse (map operand.Value ks) ∙ many ks
+  where
+    many : (ks : List Kind) → length (map operand.Value ks) ≡ length ks
+    many [] = refl
+    many (k ∷ ks) = ap suc (many ks)
+
+module _ (p : Program) (fits : Fits p) (body : ℕ) (c : Code) (found : slice_get p.bodies body ≡ Some c) (at n : ℕ) (f : Own) (v : LocalView) (is : IsAt p body c at f v)
     (here : slice_get c.instructions at ≡ Some (instr.Call n)) where
   pub record Callee : Type 0 where
     pub code : Code
     pub there : slice_get p.bodies n ≡ Some code
     pub lower : n < body
     pub may : MayRun p code (arguments_on (length code.arguments) f.stack) v
+    pub long : length code.arguments ≤ length f.stack
 
   callee_by : (o : Option Code) → slice_get p.bodies n ≡ o → (call_sign c.machine body n o).known ≡ true
-      → operands_fit (machine_of p c) (call_sign c.machine body n o).on (call_sign c.machine body n o).takes (shape_before p body c at).stack ≡ true → Callee
-  callee_by None there known fit = absurd (cc known)
-  callee_by (Some d) there known fit =
+      → operands_fit (machine_of p c) (call_sign c.machine body n o).on (call_sign c.machine body n o).takes (shape_before p body c at).stack ≡ true
+      → length (call_sign c.machine body n o).takes ≤ length (shape_before p body c at).stack → Callee
+  callee_by None there known fit enough = absurd (cc known)
+  callee_by (Some d) there known fit enough =
       let parts = and_parts (nat_lt n body) (d.machine == c.machine) known in
       let of : machine_of p c ≡ machine_of p d = ap (slice_get p.machines) (sym (eqb-true d.machine c.machine parts.1)) in
       record {
@@ -247,60 +279,112 @@ module _ (p : Program) (fits : Fits p) (body : ℕ) (c : Code) (found : slice_ge
           arguments = subst (λ m. are_of_kinds (tables_of m) d.arguments (arguments_on (length d.arguments) f.stack) ≡ true) of (arguments_are (machine_of p c) 0 d.arguments (shape_before p body c at).stack f.stack fit is.typed.stack);
           machine = subst (λ m. IsDeclared p m v.machine) of is.machine;
         };
+        long = omega (arith, enough, operands_long d.arguments, as_long (tables_of (machine_of p c)) (shape_before p body c at).stack f.stack is.typed.stack);
       }
 
   pub callee : Callee
   callee =
       let k = rules p fits body c found at f v is (instr.Call n) here in
-      callee_by (slice_get p.bodies n) refl k.names_what_is_served k.operands_have_their_kinds
+      callee_by (slice_get p.bodies n) refl k.names_what_is_served k.operands_have_their_kinds k.operands_are_there
 
-  pub call_is : (count : ℕ) (arguments : List Value) → count ≡ argument_count (slice_get p.bodies n) → arguments ≡ reverse (take count f.stack) → IsCallOf p (slice_get p.bodies n) arguments v
-  call_is count arguments many taken =
+  pub call_is : IsCallOn p (slice_get p.bodies n) f.stack v
+  call_is =
       let d = callee in
-      let long : count ≡ length d.code.arguments = many ∙ ap argument_count d.there in
-      let same : arguments_on (length d.code.arguments) f.stack ≡ arguments = ap (λ k. reverse (take k f.stack)) (sym long) ∙ sym taken in
-      subst (λ o. IsCallOf p o arguments v) (sym d.there) (subst (λ l. MayRun p d.code l v) same d.may)
+      subst (λ o. IsCallOn p o f.stack v) (sym d.there) (d.may, d.long)
 
-  call_does_as : (count : ℕ) (arguments : List Value) → count ≡ argument_count (slice_get p.bodies n) → arguments ≡ reverse (take count f.stack)
-      → code_at p body c at (held_of v f) ≡ (run_body p n arguments >>= (λ end. ends (called count end (held_of v f))))
-  call_does_as count arguments many taken =
+  call_does_as : (count : ℕ) → count ≡ argument_count (slice_get p.bodies n)
+      → code_at p body c at (held_of v f) ≡ (run_body p n (arguments_on count f.stack) >>= (λ end. ends (called count end (held_of v f))))
+  call_does_as count many =
       let d = callee in
-      let P : ℕ → Acting Step = λ k. bodies_below p body n (reverse (take k f.stack)) >>= (λ end. ends (called k end (held_of v f))) in
-      let Q : List Value → Acting Step = λ l. bodies_below p body n l >>= (λ end. ends (called count end (held_of v f))) in
-      ap (λ o. step_at p body c o (held_of v f)) here ∙ ap P (sym many) ∙ ap Q (sym taken) ∙ ap (λ (q : Acting CodeEnd). q >>= (λ end. ends (called count end (held_of v f)))) (below_is p body n arguments d.lower)
+      let P : ℕ → Acting Step = λ k. bodies_below p body n (arguments_on k f.stack) >>= (λ end. ends (called k end (held_of v f))) in
+      ap (λ o. step_at p body c o (held_of v f)) here ∙ ap P (sym many) ∙ ap (λ (q : Acting CodeEnd). q >>= (λ end. ends (called count end (held_of v f)))) (below_is p body n (arguments_on count f.stack) d.lower)
 
-  called_is : (count : ℕ) (end : CodeEnd) (left new : List Value) (m : Next) → left ≡ drop count f.stack → CalledAs end left new m → step_of v (record f { stack = new }) m ≡ called count end (held_of v f)
-  called_is count (code_end.Value x) left new m is_left so =
-      ap (step_of v (record f { stack = new })) so.0 ∙ ap (λ (s : List Value). On (held_of v (record f { stack = s }))) (so.1 ∙ ap (λ (s : List Value). x ∷ s) is_left)
-  called_is count code_end.Nothing left new m is_left so =
-      ap (step_of v (record f { stack = new })) so.0 ∙ ap (λ (s : List Value). On (held_of v (record f { stack = s }))) (so.1 ∙ is_left)
-  called_is count (code_end.Trigger event address entry tbe) left new m is_left so = ap (step_of v (record f { stack = new })) so.0
-  called_is count (code_end.Stop fault) left new m is_left so = ap (step_of v (record f { stack = new })) so.0
-
-  pub call_ends : (count : ℕ) (arguments left new : List Value) (end : CodeEnd) (m : Next) (w : LocalView) → count ≡ argument_count (slice_get p.bodies n) → arguments ≡ reverse (take count f.stack)
-      → left ≡ drop count f.stack → DoesAs itself (run_body p n arguments) (Ok end) v w → CalledAs end left new m
-      → DoesAs (step_of v (record f { stack = new })) (code_at p body c at (held_of v f)) (Ok m) v w
-  call_ends count arguments left new end m w many taken is_left does so =
-      subst (λ q. DoesAs (step_of v (record f { stack = new })) q (Ok m) v w) (sym (call_does_as count arguments many taken))
-      (then_does itself (step_of v (record f { stack = new })) (run_body p n arguments) (λ end. ends (called count end (held_of v f))) end (Ok m) v w w does
-      (does_ends_as (step_of v (record f { stack = new })) (called count end (held_of v f)) m w (called_is count end left new m is_left so)))
-
-  pub call_stops : (means : Next → Step) (count : ℕ) (arguments : List Value) (e : Trouble) (o : Result Next Trouble) (w : LocalView) → count ≡ argument_count (slice_get p.bodies n) → arguments ≡ reverse (take count f.stack)
-      → DoesAs itself (run_body p n arguments) (Err e) v w → IsErrAnd o (λ g. g ≡ e) → DoesAs means (code_at p body c at (held_of v f)) o v w
-  call_stops means count arguments e (Ok m) w many taken does is_err = absurd is_err
-  call_stops means count arguments e (Err g) w many taken does is_err =
+  pub call_stops : (means : Next → Step) (meaning : Ended → CodeEnd) (e : Trouble) (o : Result Next Trouble) (w : LocalView)
+      → DoesAs meaning (run_body p n (arguments_on (argument_count (slice_get p.bodies n)) f.stack)) (Err e) v w → IsErrAnd o (λ g. g ≡ e) → DoesAs means (code_at p body c at (held_of v f)) o v w
+  call_stops means meaning e (Ok m) w does is_err = absurd is_err
+  call_stops means meaning e (Err g) w does is_err =
       rw is_err
-      (subst (λ q. DoesAs means q (Err e) v w) (sym (call_does_as count arguments many taken))
-      (then_stops itself means (run_body p n arguments) (λ end. ends (called count end (held_of v f))) e v w w does))
+      (subst (λ q. DoesAs means q (Err e) v w) (sym (call_does_as (argument_count (slice_get p.bodies n)) refl))
+      (then_stops meaning means (run_body p n (arguments_on (argument_count (slice_get p.bodies n)) f.stack)) (λ end. ends (called (argument_count (slice_get p.bodies n)) end (held_of v f))) e v w w does))
+
+-- after a call the run goes on, or ends as the body did
+called_is : (v : LocalView) (messages : Messages) (old new : Window) (count : ℕ) (end : Ended) → new ≡ left_by end (argument new.stack 0) count old
+    → step_of v (own new messages) (called_next end) ≡ called count (end_of end new.stack) (held_of v (own old messages))
+called_is v messages old new count ended.Value is = ap (λ (x : Window). On (held_of v (own x messages))) is
+called_is v messages old new count ended.Nothing is = ap (λ (x : Window). On (held_of v (own x messages))) is
+called_is v messages old new count (ended.Trigger event address entry tbe) is = refl
+called_is v messages old new count (ended.Stop fault) is = refl
+
+module _ (p : Program) (fits : Fits p) (body : ℕ) (c : Code) (found : slice_get p.bodies body ≡ Some c) (at n : ℕ) (old new : Window) (messages : Messages) (v : LocalView) (is : IsAt p body c at (own old messages) v)
+    (here : slice_get c.instructions at ≡ Some (instr.Call n)) where
+  pub call_ends : (end : Ended) (w : LocalView) → DoesAs (λ e. end_of e new.stack) (run_body p n (arguments_on (argument_count (slice_get p.bodies n)) old.stack)) (Ok end) v w
+      → new ≡ left_by end (argument new.stack 0) (argument_count (slice_get p.bodies n)) old
+      → DoesAs (step_of v (own new messages)) (code_at p body c at (held_of v (own old messages))) (Ok (called_next end)) v w
+  call_ends end w does left =
+      subst (λ q. DoesAs (step_of v (own new messages)) q (Ok (called_next end)) v w) (sym (call_does_as p fits body c found at n (own old messages) v is here (argument_count (slice_get p.bodies n)) refl))
+      (then_does (λ e. end_of e new.stack) (step_of v (own new messages)) (run_body p n (arguments_on (argument_count (slice_get p.bodies n)) old.stack)) (λ end. ends (called (argument_count (slice_get p.bodies n)) end (held_of v (own old messages)))) end (Ok (called_next end)) v w w does
+      (does_ends_as (step_of v (own new messages)) (called (argument_count (slice_get p.bodies n)) (end_of end new.stack) (held_of v (own old messages))) (called_next end) w (called_is v messages old new (argument_count (slice_get p.bodies n)) end left)))
 
 -- The frame of a body as it begins.
-pub frame_begins : (v : LocalView) (c : Code) (arguments : List Value) (f : Frame) → f.stack ≡ [] → f.locals ≡ arguments ++ map default_value c.locals → f.inner ≡ [] → f.made ≡ [] → held_of v f ≡ entered c arguments
-frame_begins v c arguments f es el ei em =
-    let S : List Value → Held = λ s. record { stack = s; locals = f.locals; inner = fields_at v f.inner; made = f.made } in
-    let L : List Value → Held = λ l. record { stack = []; locals = l; inner = fields_at v f.inner; made = f.made } in
-    let I : List MessageAt → Held = λ i. record { stack = []; locals = arguments ++ map default_value c.locals; inner = fields_at v i; made = f.made } in
-    let M : List (List Value) → Held = λ m. record { stack = []; locals = arguments ++ map default_value c.locals; inner = []; made = m } in
-    ap S es ∙ ap L el ∙ ap I ei ∙ ap M em
+pub frame_begins : (v : LocalView) (c : Code) (n : ℕ) (old new : Window) (messages : Messages) → n ≡ length c.arguments → new ≡ begun n c.locals old → messages.inner ≡ [] → messages.made ≡ []
+    → held_of v (own new messages) ≡ entered c (arguments_on n old.stack)
+frame_begins v c n old new messages many is ei em =
+    let W : Window → Held = λ w. held_of v (own w messages) in
+    let I : List MessageAt → Held = λ i. record { stack = []; locals = arguments_on n old.stack ++ map default_value c.locals; inner = fields_at v i; made = messages.made } in
+    let M : List (List Value) → Held = λ m. record { stack = []; locals = arguments_on n old.stack ++ map default_value c.locals; inner = []; made = m } in
+    ap W is ∙ ap I ei ∙ ap M em
+
+-- at its first instruction
+pub walk_begins : (p : Program) (fits : Fits p) (body : ℕ) (c : Code) (found : slice_get p.bodies body ≡ Some c) (old new : Window) (messages : Messages) (v : LocalView) (n : ℕ) (kinds : List Kind)
+    → IsCallOn p (slice_get p.bodies body) old.stack v → n ≡ length c.arguments → kinds ≡ c.locals → new ≡ begun n kinds old → messages.inner ≡ [] → messages.made ≡ []
+    → IsAt p body c 0 (own new messages) v
+    × (run (rest_at p fits body c found 0 (held_of v (own new messages))) v ≡ run (run_body p body (arguments_on (argument_count (slice_get p.bodies body)) old.stack)) v)
+    × (new.under ≡ old.under ++ old.locals ++ reverse (drop (argument_count (slice_get p.bodies body)) old.stack))
+walk_begins p fits body c found old new messages v n kinds call many same is inner made =
+    let count : n ≡ argument_count (slice_get p.bodies body) = many ∙ sym (ap argument_count found) in
+    let as_begun : new ≡ begun (argument_count (slice_get p.bodies body)) c.locals old = is ∙ ap (λ k. begun k kinds old) count ∙ ap (λ ks. begun (argument_count (slice_get p.bodies body)) ks old) same in
+    let may : MayRun p c (arguments_on (argument_count (slice_get p.bodies body)) old.stack) v = subst (λ o. IsCallOf p o (arguments_on (argument_count (slice_get p.bodies body)) old.stack) v) found call.0 in
+    let b = begins_at p fits body c found (arguments_on (argument_count (slice_get p.bodies body)) old.stack) (own new messages) v may
+    (frame_begins v c (argument_count (slice_get p.bodies body)) old new messages (ap argument_count found) as_begun inner made) inner in
+    (b.0, sym b.1, ap (λ (w : Window). w.under) as_begun)
+
+-- there is room for a mark below what a body leaves
+pub mark_room : (m : Mark) (w : Window) (under : List Value) (n : ℕ) → IsMark m w → under ≡ w.under ++ w.locals ++ reverse (drop n w.stack) → (m.base ≤ m.floor) × (m.floor ≤ length under)
+mark_room m w under n mark is =
+    let long : length under ≡ length w.under + length w.locals + length (reverse (drop n w.stack)) = ap length is ∙ simp length-append refl in
+    (omega (arith, mark.base, mark.floor), omega (arith, long, mark.floor))
+
+-- the arguments of a call on top of a stack
+pub arguments_back : (p : Program) (o : Option Code) (arguments stack below : List Value) (v : LocalView) → IsCallOf p o arguments v → stack ≡ reverse arguments ++ below
+    → (arguments_on (argument_count o) stack ≡ arguments) × (argument_count o ≤ length stack)
+arguments_back p None arguments stack below v call is = absurd call
+arguments_back p (Some c) arguments stack below v call is =
+    let long : length (reverse arguments) ≡ length c.arguments = length-reverse arguments ∙ sym (as_long (tables_of (machine_of p c)) c.arguments arguments call.arguments) in
+    let all : length stack ≡ length (reverse arguments) + length below = ap length is ∙ length-append (reverse arguments) below in
+    (ap (λ s. reverse (take (length c.arguments) s)) is ∙ ap reverse (take_at (reverse arguments) below (length c.arguments) long) ∙ reverse-reverse arguments, omega (arith, long, all))
+
+pub call_on : (p : Program) (o : Option Code) (arguments stack below : List Value) (v : LocalView) → IsCallOf p o arguments v → stack ≡ reverse arguments ++ below → IsCallOn p o stack v
+call_on p o arguments stack below v call is =
+    let back = arguments_back p o arguments stack below v call is in
+    (subst (λ l. IsCallOf p o l v) (sym back.0) call, back.1)
+
+-- what is answered, in the words of the caller
+pub answer_as : (means : Ended → CodeEnd) (q r : Acting CodeEnd) (e : Ended) (x : CodeEnd) (v w : LocalView) → DoesAs means q (Ok e) v w → q ≡ r → x ≡ means e → DoesAs itself r (Ok x) v w
+unfolding DoesAs
+answer_as means q r e x v w does same is = sym (ap (λ a. run a v) same) ∙ does ∙ ap (λ y. Ok (record { value = y; view = w })) (sym is)
+
+pub stop_as : (means : Ended → CodeEnd) (q r : Acting CodeEnd) (e : Trouble) (v w : LocalView) → DoesAs means q (Err e) v w → q ≡ r → DoesAs itself r (Err e) v w
+unfolding DoesAs
+stop_as means q r (trouble.Fault f) v w does same = sym (ap (λ a. run a v) same) ∙ does
+stop_as means q r trouble.NoMemory v w does same = tt
+
+-- a body that ended with a value left it
+pub has_result : (r : Result Ended Trouble) (old new : Window) (n : ℕ) → IfOk r (λ e. new ≡ left_by e (argument new.stack 0) n old) → IfOk r (λ e. HasResult e new.stack)
+has_result (Ok ended.Value) old new n left = subst (λ (w : Window). Over Any Rest w.stack) (sym left) (tt, tt)
+has_result (Ok ended.Nothing) old new n left = tt
+has_result (Ok (ended.Trigger event address entry tbe)) old new n left = tt
+has_result (Ok (ended.Stop f)) old new n left = tt
+has_result (Err e) old new n left = tt
 
 pub no_call : (i : Instr) → ((n : ℕ) → i ≡ instr.Call n → ⊥) → IsNoCall i
 no_call (instr.Call n) other = other n refl
@@ -319,12 +403,51 @@ pub ends_as_fault : (q : Acting CodeEnd) (f : Fault) (v w : LocalView) → DoesA
 unfolding DoesAs
 ends_as_fault q f v w does = ap outcome does
 
--- of a program that is another
-module _ (p q : Program) (same : p ≡ q) (body : ℕ) (arguments : List Value) (v w : LocalView) where
-  pub ends_as_of : (end : CodeEnd) → DoesAs itself (run_body p body arguments) (Ok end) v w → EndsAs (run_body q body arguments) (Ok end) v w
-  ends_as_of end does = subst (λ x. EndsAs (run_body x body arguments) (Ok end) v w) same (ends_as (run_body p body arguments) end v w does)
+-- What it answers is an end of the body with its result.
 
-  pub ends_as_fault_of : (f : Fault) (e : Trouble) → e ≡ trouble.Fault f → DoesAs itself (run_body p body arguments) (Err e) v w → EndsAs (run_body q body arguments) (Ok (code_end.Stop f)) v w
-  ends_as_fault_of f e is does =
-      subst (λ x. EndsAs (run_body x body arguments) (Ok (code_end.Stop f)) v w) same
-      (ends_as_fault (run_body p body arguments) f v w (subst (λ t. DoesAs itself (run_body p body arguments) (Err t) v w) is does))
+stop_is_end : (tables : List TableDecl) (result : Option Kind) (f : Fault) → is_end_of tables result (code_end.Stop f) ≡ true
+stop_is_end tables None f = refl
+stop_is_end tables (Some k) f = refl
+
+pub stop_of_kind : (p : Program) (o : Option Code) (f : Fault) → EndsOfKind p o (Ok (code_end.Stop f))
+stop_of_kind p None f = tt
+stop_of_kind p (Some c) f = stop_is_end (tables_of (machine_of p c)) c.result f
+
+module _ (body : ℕ) (arguments : List Value) (end : CodeEnd) (v w : LocalView) (lawful : IsLawful v) where
+  end_by : (p : Program) (fits : Fits p) (o : Option Code) → slice_get p.bodies body ≡ o → IsCallOf p o arguments v → DoesAs itself (run_body p body arguments) (Ok end) v w → EndsOfKind p o (Ok end)
+  unfolding DoesAs
+  end_by p fits None found call does = tt
+  end_by p fits (Some c) found call does =
+      let g = run_ends p (each_place_from p fits) v.machine body c found call.machine arguments call.arguments in
+      subst (Holds (λ end. is_end_of (tables_of (machine_of p c)) c.result end ≡ true)) does (g.gives v lawful refl)
+
+module _ (p code : Program) (same : p ≡ code) (body : ℕ) (arguments stack below : List Value) (v : LocalView) (call : IsCallOf code (slice_get code.bodies body) arguments v) (is : stack ≡ reverse arguments ++ below) where
+  pub may_call : IsCallOn p (slice_get p.bodies body) stack v
+  may_call = subst (λ x. IsCallOn x (slice_get x.bodies body) stack v) (sym same) (call_on code (slice_get code.bodies body) arguments stack below v call is)
+
+  the_same : run_body p body (arguments_on (argument_count (slice_get p.bodies body)) stack) ≡ run_body code body arguments
+  the_same =
+      let back = arguments_back code (slice_get code.bodies body) arguments stack below v call is in
+      ap (λ x. run_body x body (arguments_on (argument_count (slice_get x.bodies body)) stack)) same ∙ ap (run_body code body) back.0
+
+  module _ (w : LocalView) (left : List Value) where
+    pub code_does : (r : Result Ended Trouble) → DoesAs (λ e. end_of e left) (run_body p body (arguments_on (argument_count (slice_get p.bodies body)) stack)) r v w → EndsAs (run_body code body arguments) (code_answer r left) v w
+    code_does (Ok e) does =
+        ends_as (run_body code body arguments) (end_of e left) v w
+        (answer_as (λ e. end_of e left) (run_body p body (arguments_on (argument_count (slice_get p.bodies body)) stack)) (run_body code body arguments) e (end_of e left) v w does the_same refl)
+    code_does (Err (trouble.Fault f)) does =
+        ends_as_fault (run_body code body arguments) f v w
+        (stop_as (λ e. end_of e left) (run_body p body (arguments_on (argument_count (slice_get p.bodies body)) stack)) (run_body code body arguments) (trouble.Fault f) v w does the_same)
+    code_does (Err trouble.NoMemory) does = tt
+
+    pub code_kind : IsLawful v → Fits code → (r : Result Ended Trouble) → DoesAs (λ e. end_of e left) (run_body p body (arguments_on (argument_count (slice_get p.bodies body)) stack)) r v w
+        → EndsOfKind code (slice_get code.bodies body) (code_answer r left)
+    code_kind lawful fits (Ok e) does =
+        end_by body arguments (end_of e left) v w lawful code fits (slice_get code.bodies body) refl call
+        (answer_as (λ e. end_of e left) (run_body p body (arguments_on (argument_count (slice_get p.bodies body)) stack)) (run_body code body arguments) e (end_of e left) v w does the_same refl)
+    code_kind lawful fits (Err (trouble.Fault f)) does = stop_of_kind code (slice_get code.bodies body) f
+    code_kind lawful fits (Err trouble.NoMemory) does = none_of_kind (slice_get code.bodies body)
+      where
+        none_of_kind : (o : Option Code) → EndsOfKind code o (Err (record {}))
+        none_of_kind None = tt
+        none_of_kind (Some c) = tt

@@ -1,7 +1,6 @@
 -- A stack is kept from the bottom up and seen from the top down.
-use Rattle.std.proofs.Common.{◌≡◌, ℕ, ◌+◌, ◌-◌, ◌<◌, ◌≤◌, Option, None, Some, List, [], ◌∷◌, ◌++◌, MatchOption, length, length-append, reverse, take, drop, slice_get, option_to_list, refl, ap, sym, ◌∙◌, arith, inl, inr}
-use Rattle.std.proofs.lemmas.Bool.{cases_lt}
-use Rattle.std.proofs.lemmas.List.{length-drop, length-reverse, reverse-append, reverse-reverse, take_all, take_at, take-append-drop}
+use Rattle.std.proofs.Common.{◌≡◌, ◌+◌, ◌-◌, Option, None, Some, List, [], ◌∷◌, ◌++◌, MatchOption, length, length-append, reverse, slice_get, option_to_list, refl, ap, sym, ◌∙◌, arith}
+use Rattle.std.proofs.lemmas.List.{reverse-append, reverse-reverse}
 use Rattle.action_vm.specs.Stacks.{Popped}
 
 pub reverse_push : {A : Type 0} (items : List A) (x : A) → reverse (items ++ x ∷ []) ≡ x ∷ reverse items
@@ -31,20 +30,3 @@ last_is {A} (y ∷ ys) xs is =
 
 pub top_is : {A : Type 0} (xs : List A) → slice_get xs (length xs - 1) ≡ slice_get (reverse xs) 0
 top_is xs = sym (last_is (reverse xs) xs (reverse-reverse xs))
-
--- the topmost, from the lowest up
-all_top : {A : Type 0} (xs : List A) (n : ℕ) → length xs < n → drop (length xs - n) xs ≡ reverse (take n (reverse xs))
-all_top xs n h =
-    let none : length xs - n ≡ 0 = omega (arith, h) in
-    let all : take n (reverse xs) ≡ reverse xs = take_all n (reverse xs) (omega (arith, h, length-reverse xs)) in
-    ap (λ k. drop k xs) none ∙ sym (reverse-reverse xs) ∙ sym (ap reverse all)
-
-some_top : {A : Type 0} (xs : List A) (n : ℕ) → n ≤ length xs → drop (length xs - n) xs ≡ reverse (take n (reverse xs))
-some_top xs n h =
-    let k = length xs - n in
-    let parts : reverse xs ≡ reverse (drop k xs) ++ reverse (take k xs) = ap reverse (sym (take-append-drop k xs)) ∙ reverse-append (take k xs) (drop k xs) in
-    let many : length (reverse (drop k xs)) ≡ n = length-reverse (drop k xs) ∙ length-drop k xs ∙ omega (arith, h) in
-    sym (reverse-reverse (drop k xs)) ∙ ap reverse (sym (ap (take n) parts ∙ take_at (reverse (drop k xs)) (reverse (take k xs)) n many))
-
-pub reverse_top : {A : Type 0} (xs : List A) (n : ℕ) → drop (length xs - n) xs ≡ reverse (take n (reverse xs))
-reverse_top xs n = elim (cases_lt (length xs) n) [ inl h ↦ all_top xs n h | inr h ↦ some_top xs n h ]

@@ -1,6 +1,6 @@
 pub mod Stacks
-pub mod Needs
 pub mod Pops
+pub mod Served
 pub mod Frames
 pub mod Places
 pub mod Outcome

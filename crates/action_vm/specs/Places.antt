@@ -7,15 +7,14 @@ use Rattle.action_code.specs.declared.instr.Code.{Code}
 use Rattle.action_code.specs.declared.instr.Instr.{Instr}
 use Rattle.action_code.specs.declared.program.Program.{Program}
 use Rattle.action_code.specs.Prelude.{machine_of, shape_before}
-use Rattle.code_meaning.specs.declared.code_end.CodeEnd.{CodeEnd}
 use Rattle.code_meaning.specs.declared.code_end.CodeEnd.TheVariants.{Nothing}
 use Rattle.code_meaning.specs.Prelude.{Held, IsDeclared, IsTyped, Over, Step, bodies_below, code_step}
-use Rattle.action_vm.specs.declared.frame.Frame.{Frame}
+use Rattle.action_vm.specs.declared.frame.Ended.{Ended}
 use Rattle.action_vm.specs.declared.frame.Next.{Next}
 use Rattle.action_vm.specs.declared.frame.Next.TheVariants as next
-use Rattle.action_vm.specs.Frames.{HasPlaces, held_of}
+use Rattle.action_vm.specs.Frames.{HasPlaces, Own, held_of}
 
-pub record IsAt (p : Program) (body : ℕ) (c : Code) (at : ℕ) (f : Frame) (v : LocalView) : Type 0 where
+pub record IsAt (p : Program) (body : ℕ) (c : Code) (at : ℕ) (f : Own) (v : LocalView) : Type 0 where
   pub within : at < length c.instructions
   pub typed : IsTyped p c (shape_before p body c at) (held_of v f)
   pub places : HasPlaces v f.inner
@@ -30,7 +29,7 @@ abbrev pub code_at : Program → ℕ → Code → ℕ → Held → Acting Step
 code_at p body c at h = step_at p body c (slice_get c.instructions at) h
 
 -- where it goes on, or its end
-abbrev pub place_after : ℕ → Next → Result ℕ CodeEnd
+abbrev pub place_after : ℕ → Next → Result ℕ Ended
 place_after at next.On = Ok (at + 1)
 place_after at (next.To to) = Ok to
 place_after at (next.Over end) = Err end

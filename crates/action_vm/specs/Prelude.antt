@@ -1,7 +1,7 @@
 -- The definitions that other files name, from one place.
 pub use Rattle.action_vm.specs.Stacks.{Popped}
-pub use Rattle.action_vm.specs.Needs.{Any, IsAddress, IsBool, IsInt, IsReference, Over, Rest}
-pub use Rattle.action_vm.specs.Frames.{CalledAs, HasPlaces, IsNoCall, Needs, NeedsResult, fields_at, held_of, on_of, on_of_memory, step_of}
+pub use Rattle.action_vm.specs.Served.{CanGet, CanSend, CanSet, IsServed}
+pub use Rattle.action_vm.specs.Frames.{HasPlaces, HasResult, HasResultAfter, IsNoCall, Needs, NeedsResult, Own, called_next, end_of, fields_at, held_of, left_by, on_of, on_of_memory, own, step_of}
 pub use Rattle.action_vm.specs.Pops.{IsOverReference}
 pub use Rattle.action_vm.specs.Places.{IsAt, code_at, place_after, step_at}
-pub use Rattle.action_vm.specs.Outcome.{EndsAs, IsCallOf, MayRun, outcome}
+pub use Rattle.action_vm.specs.Outcome.{EndsAs, EndsOfKind, IsCallOf, IsCallOn, MayRun, code_answer, outcome}

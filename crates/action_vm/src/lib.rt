@@ -1,13 +1,13 @@
-//! The machine of action code: it runs a body of verified code in a local. By itself it tests no operand, no kind and no jump; the acts and
-//! built-in calls that it makes still test what a machine serves.
+//! The machine of action code: it runs a body of verified code in a local. It tests no operand, no kind and no jump, and not whether a
+//! machine serves what an instruction asks; the operations still test that.
 #![tactic(auto, using(acts::proofs::Walk::walk_steps))]
 
 mod frame;
 mod operating;
 mod plain;
-mod pops;
 mod reading;
 mod running;
+mod served;
 mod stack;
 mod turning;
 

@@ -1,22 +1,19 @@
 //! Operations, and ends of bodies.
-ghost use Rattle.std.specs.Prelude.{◌≡◌, slice_get, IfOk, OnOk};
+ghost use Rattle.std.specs.Prelude.{◌≡◌, ◌≤◌, List, drop, length, slice_get, IfOk, OnOk};
+ghost use Rattle.ruby_value.specs.declared.value.Value.{Value as AnyValue};
 ghost use Rattle.ctl_face.specs.Prelude.{LocalView};
-ghost use Rattle.acts.specs.Prelude.{DoesAs};
-ghost use Rattle.action_code.specs.Prelude.{machine_of, operations, tables_of};
-ghost use Rattle.built_in_acts.specs.Prelude.{argument};
-ghost use Rattle.code_meaning.specs.Prelude.{argument_count, arity, called, kept_of, kinds_of, operated, returned, stop_of, triggered};
-ghost use Rattle.action_vm.specs.Frames.{CalledAs, NeedsResult, step_of};
-ghost use Rattle.action_vm.specs.Needs.{Any, IsAddress, IsReference, Over, Rest};
-ghost use Rattle.action_vm.specs.declared.frame.Frame.{Frame};
-ghost use Rattle.action_vm.specs.declared.frame.Next.TheVariants as next;
+ghost use Rattle.acts.specs.Prelude.{DoesAs, itself};
+ghost use Rattle.action_code.specs.Prelude.{machine_of, operands_of, operations, tables_of};
+ghost use Rattle.built_in_acts.specs.Prelude.{argument, built_in};
+ghost use Rattle.code_meaning.specs.Prelude.{arguments_on, arity, kept_of, kinds_of, operated, returned, stop_of, triggered};
+ghost use Rattle.action_vm.specs.Frames.{HasResult, HasResultAfter, NeedsResult, Own, end_of, step_of};
+ghost use Rattle.code_frame.specs.Prelude.{IsAddress, IsReference, Over, Rest, SameRest};
 
-use crate::frame::Next;
-use crate::pops::{pop, pop_address, pop_reference};
-use crate::stack::Stack;
+use crate::frame::{Ended, Next};
 use action_code::{Arguments, Code, OPERATIONS, Operation, Program, TableDecl};
-use acts::{Fault, Local, NoMemory, Trouble, Value};
+use acts::{Fault, Local, Trouble, Value};
 use built_in_acts::{KeptMachines, address_of_line, built_in};
-use code_meaning::CodeEnd;
+use code_frame::Frame;
 use ruby_value::{Kind, line_of};
 use std::alloc::Global;
 
@@ -65,29 +62,57 @@ fn all_operations() -> &'static [Operation]
     &OPERATIONS
 }
 
-// How many values the operation of this number takes.
-fn arity(n: u16) -> usize
-    ensures { result ≡ arity (slice_get operations n) }
+// What the operation of this number takes.
+fn arguments_of(n: u16) -> Arguments
+    ensures { length (operands_of result) ≡ arity (slice_get operations n) }
 {
     match all_operations().get(usize::from(n)) {
-        None => 0,
-        Some(o) => match o.arguments {
-            Arguments::Zero => 0,
-            Arguments::One(_) => 1,
-            Arguments::Two(_, _) => 2,
-            Arguments::Three(_, _, _) => 3,
-            Arguments::Four(_, _, _, _) => 4,
-        },
+        None => Arguments::Zero,
+        Some(o) => o.arguments,
     }
 }
 
-/// How many arguments the body of this number has.
-pub(crate) fn argument_count(p: &Program, n: u32) -> usize
-    ensures { result ≡ argument_count (slice_get p.now.bodies n) }
+// Takes the arguments off, does the operation, and answers what it gives.
+fn asked<T: Local>(
+    alloc: Global,
+    kept: KeptMachines,
+    n: u16,
+    on: u16,
+    frame: &mut Frame,
+    local: &mut T,
+) -> Result<Option<Value>, Trouble>
+    requires { arity (slice_get operations n) ≤ length frame.old.stack }
+    ensures does { let count = arity (slice_get operations n) in
+        DoesAs itself (built_in kept n on (arguments_on count frame.old.stack)) result
+        (T.view local.old) (T.view local.new) }
+    ensures left { OnOk result (frame.new.stack ≡ drop (arity
+        (slice_get operations n)) frame.old.stack) }
+    ensures rest { OnOk result (SameRest frame.old frame.new) }
 {
-    match p.bodies.get(n as usize) {
-        Some(c) => c.arguments.len(),
-        None => 0,
+    match arguments_of(n) {
+        Arguments::Zero => built_in(alloc, local, kept, n, on, &[]),
+        Arguments::One(_) => {
+            let arguments = [frame.pop()];
+            built_in(alloc, local, kept, n, on, &arguments)
+        }
+        Arguments::Two(_, _) => {
+            let b = frame.pop();
+            let arguments = [frame.pop(), b];
+            built_in(alloc, local, kept, n, on, &arguments)
+        }
+        Arguments::Three(_, _, _) => {
+            let d = frame.pop();
+            let b = frame.pop();
+            let arguments = [frame.pop(), b, d];
+            built_in(alloc, local, kept, n, on, &arguments)
+        }
+        Arguments::Four(_, _, _, _) => {
+            let e = frame.pop();
+            let d = frame.pop();
+            let b = frame.pop();
+            let arguments = [frame.pop(), b, d, e];
+            built_in(alloc, local, kept, n, on, &arguments)
+        }
     }
 }
 
@@ -98,43 +123,32 @@ pub(crate) fn operate<T: Local>(
     c: &Code,
     n: u16,
     on: u16,
-    stack: &mut Stack<Value>,
+    frame: &mut Frame,
     local: &mut T,
 ) -> Result<(), Trouble>
-    ensures { DoesAs (λ _. stack.new) (operated p.now c.now n on stack.old) result
+    requires { arity (slice_get operations n) ≤ length frame.old.stack }
+    ensures does { DoesAs (λ _. frame.new.stack) (operated p.now c.now n on frame.old.stack) result
         (T.view local.old) (T.view local.new) }
+    ensures rest { OnOk result (SameRest frame.old frame.new) }
 {
-    let arguments = stack.take(arity(n))?;
-    let given = built_in(alloc, local, kept_of(p, c), n, on, arguments.as_slice())?;
+    let given = asked(alloc, kept_of(p, c), n, on, frame, local)?;
     if let Some(v) = given {
-        stack.push(v)?;
+        frame.push(v)?;
     }
     Ok(())
 }
 
-/// After a call that ended so, whose arguments were taken off.
-pub(crate) fn called(stack: &mut Stack<Value>, end: CodeEnd) -> Result<Next, NoMemory>
-    ensures { IfOk result (λ n. CalledAs end stack.old stack.new n) }
-{
-    match end {
-        CodeEnd::Value(v) => {
-            stack.push(v)?;
-            Ok(Next::On)
-        }
-        CodeEnd::Nothing => Ok(Next::On),
-        other => Ok(Next::Over(other)),
-    }
-}
-
 /// The end of a body that asks for an event, with the address and the references on top.
-pub(crate) fn trigger(stack: &mut Stack<Value>, event: u16) -> CodeEnd
-    requires { Over IsReference (Over IsReference (Over IsAddress Rest)) stack.old }
-    ensures { result ≡ triggered event stack.old }
+pub(crate) fn trigger(frame: &mut Frame, event: u16) -> Ended
+    requires { Over IsReference (Over IsReference (Over IsAddress Rest)) frame.old.stack }
+    ensures end { (s : List AnyValue) → end_of result s ≡ triggered event frame.old.stack }
+    ensures rest { SameRest frame.old frame.new }
+    ensures value { (s : List AnyValue) → HasResult result s }
 {
-    let tbe = pop_reference(stack);
-    let entry = pop_reference(stack);
-    let address = address_of_line(line_of(pop_address(stack)));
-    CodeEnd::Trigger {
+    let tbe = frame.pop_reference();
+    let entry = frame.pop_reference();
+    let address = address_of_line(line_of(frame.pop_address()));
+    Ended::Trigger {
         event,
         address,
         entry,
@@ -144,24 +158,26 @@ pub(crate) fn trigger(stack: &mut Stack<Value>, event: u16) -> CodeEnd
 
 /// The end of a body that stops with a fault.
 pub(crate) fn stop(alloc: Global, fault: &Fault) -> Result<Next, Trouble>
-    ensures { (l : LocalView) (f : Frame) → DoesAs (step_of l f) (stop_of fault.now) result l l }
+    ensures does { (l : LocalView) (f : Own) → DoesAs (step_of l f)
+        (stop_of fault.now) result l l }
+    ensures value { (s : List AnyValue) → IfOk result (λ n. HasResultAfter n s) }
 {
     let own = Fault::copied(alloc, fault)?;
     match own {
         Fault::Assert | Fault::Error(_) | Fault::Overflow | Fault::Reference => {
             Err(Trouble::Fault(own))
         }
-        other => Ok(Next::Over(CodeEnd::Stop(other))),
+        other => Ok(Next::Over(Ended::Stop(other))),
     }
 }
 
 /// The end of a body with this result.
-pub(crate) fn ret(stack: &mut Stack<Value>, kind: Option<Kind>) -> CodeEnd
-    requires { NeedsResult kind stack.old }
-    ensures { result ≡ returned kind (argument stack.old 0) }
+pub(crate) fn ret(kind: Option<Kind>) -> Ended
+    ensures end { (s : List AnyValue) → end_of result s ≡ returned kind (argument s 0) }
+    ensures value { (s : List AnyValue) → NeedsResult kind s → HasResult result s }
 {
     match kind {
-        None => CodeEnd::Nothing,
-        Some(_) => CodeEnd::Value(pop(stack)),
+        None => Ended::Nothing,
+        Some(_) => Ended::Value,
     }
 }

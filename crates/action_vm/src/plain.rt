@@ -1,25 +1,25 @@
-//! The instructions that change the stack alone and need no controller.
-ghost use Rattle.std.specs.Prelude.{◌≡◌, ◌<◌, ◌∷◌, drop, length, slice_set, if◌then◌else◌};
+//! The instructions that change the stack and the locals alone, and need no controller.
+ghost use Rattle.std.specs.Prelude.{◌≡◌, ◌<◌, ◌∷◌, drop, length, slice_set, if◌then◌else◌, OnOk};
 ghost use Rattle.action_vm.specs.declared.frame.Next.TheVariants as next;
 ghost use Rattle.ruby_value.specs.declared.value.Value.TheVariants as value;
 ghost use Rattle.ctl_face.specs.Prelude.{LocalView};
 ghost use Rattle.acts.specs.Prelude.{DoesAs, ends, given};
 ghost use Rattle.built_in_acts.specs.Prelude.{are_equal, argument, difference, is_at_most, is_less, negation, product, sum, truth};
 ghost use Rattle.code_meaning.specs.Prelude.{multiplied, negated, opposite, subtracted, summed, tested, with_number};
-ghost use Rattle.action_vm.specs.Needs.{Any, IsBool, IsInt, Over, Rest};
+ghost use Rattle.code_frame.specs.Prelude.{Any, IsBool, IsInt, Over, Rest, SameRest, stored};
 
 use crate::frame::Next;
-use crate::pops::{pop, pop_bool, pop_int, push_cloned};
-use crate::stack::Stack;
-use acts::{BodyFault, Trouble, Value};
+use acts::{BodyFault, NoMemory, Trouble, Value};
 use built_in_acts::are_equal;
-use ruby_value::Seq;
+use code_frame::Frame;
 
 /// A value of its own on top.
-pub(crate) fn push(stack: &mut Stack<Value>, v: &Value) -> Result<(), Trouble>
-    ensures { (l : LocalView) → DoesAs (λ _. stack.new) (ends (v.now ∷ stack.old)) result l l }
+pub(crate) fn push(frame: &mut Frame, v: &Value) -> Result<(), Trouble>
+    ensures does { (l : LocalView) → DoesAs (λ _. frame.new.stack) (ends
+        (v.now ∷ frame.old.stack)) result l l }
+    ensures rest { OnOk result (SameRest frame.old frame.new) }
 {
-    push_cloned(stack, v)?;
+    frame.push_copied(v)?;
     Ok(())
 }
 
@@ -61,124 +61,142 @@ fn negation(a: i64) -> Result<i64, BodyFault>
 
 // A number on top, or the fault in its place.
 #[tactic(auto, using(acts::proofs::Walk::walk_steps, crate::proofs::Arms::put_steps))]
-fn put(stack: &mut Stack<Value>, r: Result<i64, BodyFault>) -> Result<(), Trouble>
-    ensures { (l : LocalView) → DoesAs (λ _. stack.new) (given (with_number 0 stack.old r)) result l l }
+fn put(frame: &mut Frame, r: Result<i64, BodyFault>) -> Result<(), Trouble>
+    ensures does { (l : LocalView) → DoesAs (λ _. frame.new.stack) (given
+        (with_number 0 frame.old.stack r)) result l l }
+    ensures rest { OnOk result (SameRest frame.old frame.new) }
 {
     match r {
         Ok(n) => {
-            stack.push(Value::Int(n))?;
+            frame.push_int(n)?;
             Ok(())
         }
         Err(own) => Err(Trouble::from(own)),
     }
 }
 
-pub(crate) fn add(stack: &mut Stack<Value>) -> Result<(), Trouble>
-    requires { Over IsInt (Over IsInt Rest) stack.old }
-    ensures { (l : LocalView) → DoesAs (λ _. stack.new) (given (summed stack.old)) result l l }
+pub(crate) fn add(frame: &mut Frame) -> Result<(), Trouble>
+    requires { Over IsInt (Over IsInt Rest) frame.old.stack }
+    ensures does { (l : LocalView) → DoesAs (λ _. frame.new.stack) (given
+        (summed frame.old.stack)) result l l }
+    ensures rest { OnOk result (SameRest frame.old frame.new) }
 {
-    let b = pop_int(stack);
-    let a = pop_int(stack);
-    put(stack, sum(a, b))
+    let b = frame.pop_int();
+    let a = frame.pop_int();
+    put(frame, sum(a, b))
 }
 
-pub(crate) fn sub(stack: &mut Stack<Value>) -> Result<(), Trouble>
-    requires { Over IsInt (Over IsInt Rest) stack.old }
-    ensures { (l : LocalView) → DoesAs (λ _. stack.new) (given (subtracted stack.old)) result l l }
+pub(crate) fn sub(frame: &mut Frame) -> Result<(), Trouble>
+    requires { Over IsInt (Over IsInt Rest) frame.old.stack }
+    ensures does { (l : LocalView) → DoesAs (λ _. frame.new.stack) (given
+        (subtracted frame.old.stack)) result l l }
+    ensures rest { OnOk result (SameRest frame.old frame.new) }
 {
-    let b = pop_int(stack);
-    let a = pop_int(stack);
-    put(stack, difference(a, b))
+    let b = frame.pop_int();
+    let a = frame.pop_int();
+    put(frame, difference(a, b))
 }
 
-pub(crate) fn mul(stack: &mut Stack<Value>) -> Result<(), Trouble>
-    requires { Over IsInt (Over IsInt Rest) stack.old }
-    ensures { (l : LocalView) → DoesAs (λ _. stack.new) (given (multiplied stack.old)) result l l }
+pub(crate) fn mul(frame: &mut Frame) -> Result<(), Trouble>
+    requires { Over IsInt (Over IsInt Rest) frame.old.stack }
+    ensures does { (l : LocalView) → DoesAs (λ _. frame.new.stack) (given
+        (multiplied frame.old.stack)) result l l }
+    ensures rest { OnOk result (SameRest frame.old frame.new) }
 {
-    let b = pop_int(stack);
-    let a = pop_int(stack);
-    put(stack, product(a, b))
+    let b = frame.pop_int();
+    let a = frame.pop_int();
+    put(frame, product(a, b))
 }
 
-pub(crate) fn neg(stack: &mut Stack<Value>) -> Result<(), Trouble>
-    requires { Over IsInt Rest stack.old }
-    ensures { (l : LocalView) → DoesAs (λ _. stack.new) (given (negated stack.old)) result l l }
+pub(crate) fn neg(frame: &mut Frame) -> Result<(), Trouble>
+    requires { Over IsInt Rest frame.old.stack }
+    ensures does { (l : LocalView) → DoesAs (λ _. frame.new.stack) (given
+        (negated frame.old.stack)) result l l }
+    ensures rest { OnOk result (SameRest frame.old frame.new) }
 {
-    let a = pop_int(stack);
-    put(stack, negation(a))
+    let a = frame.pop_int();
+    put(frame, negation(a))
 }
 
-pub(crate) fn lt(stack: &mut Stack<Value>) -> Result<(), Trouble>
-    requires { Over IsInt (Over IsInt Rest) stack.old }
-    ensures { (l : LocalView) → DoesAs (λ _. stack.new)
-        (ends (tested 2 (is_less (argument stack.old 1) (argument stack.old 0)) stack.old)) result l l }
+pub(crate) fn lt(frame: &mut Frame) -> Result<(), Trouble>
+    requires { Over IsInt (Over IsInt Rest) frame.old.stack }
+    ensures does { (l : LocalView) → DoesAs (λ _. frame.new.stack)
+        (ends (tested 2 (is_less (argument frame.old.stack 1)
+        (argument frame.old.stack 0)) frame.old.stack)) result l l }
+    ensures rest { OnOk result (SameRest frame.old frame.new) }
 {
-    let b = pop_int(stack);
-    let a = pop_int(stack);
-    stack.push(Value::Bool(a < b))?;
+    let b = frame.pop_int();
+    let a = frame.pop_int();
+    frame.push_bool(a < b)?;
     Ok(())
 }
 
-pub(crate) fn le(stack: &mut Stack<Value>) -> Result<(), Trouble>
-    requires { Over IsInt (Over IsInt Rest) stack.old }
-    ensures { (l : LocalView) → DoesAs (λ _. stack.new)
-        (ends (tested 2 (is_at_most (argument stack.old 1) (argument stack.old 0)) stack.old)) result l l }
+pub(crate) fn le(frame: &mut Frame) -> Result<(), Trouble>
+    requires { Over IsInt (Over IsInt Rest) frame.old.stack }
+    ensures does { (l : LocalView) → DoesAs (λ _. frame.new.stack)
+        (ends (tested 2 (is_at_most (argument frame.old.stack 1)
+        (argument frame.old.stack 0)) frame.old.stack)) result l l }
+    ensures rest { OnOk result (SameRest frame.old frame.new) }
 {
-    let b = pop_int(stack);
-    let a = pop_int(stack);
-    stack.push(Value::Bool(a <= b))?;
+    let b = frame.pop_int();
+    let a = frame.pop_int();
+    frame.push_bool(a <= b)?;
     Ok(())
 }
 
-pub(crate) fn eq(stack: &mut Stack<Value>) -> Result<(), Trouble>
-    requires { Over Any (Over Any Rest) stack.old }
-    ensures { (l : LocalView) → DoesAs (λ _. stack.new)
-        (ends (tested 2 (are_equal (argument stack.old 1) (argument stack.old 0)) stack.old)) result l l }
+pub(crate) fn eq(frame: &mut Frame) -> Result<(), Trouble>
+    requires { Over Any (Over Any Rest) frame.old.stack }
+    ensures does { (l : LocalView) → DoesAs (λ _. frame.new.stack)
+        (ends (tested 2 (are_equal (argument frame.old.stack 1)
+        (argument frame.old.stack 0)) frame.old.stack)) result l l }
+    ensures rest { OnOk result (SameRest frame.old frame.new) }
 {
-    let b = pop(stack);
-    let a = pop(stack);
-    stack.push(Value::Bool(are_equal(&a, &b)))?;
+    let b = frame.pop();
+    let a = frame.pop();
+    frame.push_bool(are_equal(&a, &b))?;
     Ok(())
 }
 
-pub(crate) fn not(stack: &mut Stack<Value>) -> Result<(), Trouble>
-    requires { Over IsBool Rest stack.old }
-    ensures { (l : LocalView) → DoesAs (λ _. stack.new)
-        (ends (tested 1 (opposite (truth (argument stack.old 0))) stack.old)) result l l }
+pub(crate) fn not(frame: &mut Frame) -> Result<(), Trouble>
+    requires { Over IsBool Rest frame.old.stack }
+    ensures does { (l : LocalView) → DoesAs (λ _. frame.new.stack)
+        (ends (tested 1 (opposite (truth
+        (argument frame.old.stack 0))) frame.old.stack)) result l l }
+    ensures rest { OnOk result (SameRest frame.old frame.new) }
 {
-    let b = pop_bool(stack);
-    stack.push(Value::Bool(!b))?;
+    let b = frame.pop_bool();
+    frame.push_bool(!b)?;
     Ok(())
 }
 
 /// The value of a local on top.
-pub(crate) fn load(locals: &Seq<Value>, stack: &mut Stack<Value>, n: u16) -> Result<(), Trouble>
-    requires { n < length locals.now }
-    ensures { (l : LocalView) → DoesAs (λ _. stack.new)
-        (ends (argument locals.now n ∷ stack.old)) result l l }
+pub(crate) fn load(frame: &mut Frame, n: u16) -> Result<(), Trouble>
+    requires { n < length frame.old.locals }
+    ensures does { (l : LocalView) → DoesAs (λ _. frame.new.stack)
+        (ends (argument frame.old.locals n ∷ frame.old.stack)) result l l }
+    ensures rest { OnOk result (SameRest frame.old frame.new) }
 {
-    push_cloned(stack, &locals[usize::from(n)])?;
+    frame.load(usize::from(n))?;
     Ok(())
 }
 
 /// The value on top for a local.
-pub(crate) fn store(locals: &mut Seq<Value>, stack: &mut Stack<Value>, n: u16)
-    requires value { Over Any Rest stack.old }
-    requires local { n < length locals.old }
-    ensures stack { stack.new ≡ drop 1 stack.old }
-    ensures locals { locals.new ≡ slice_set locals.old n (argument stack.old 0) }
+pub(crate) fn store(frame: &mut Frame, n: u16) -> Result<(), NoMemory>
+    requires value { Over Any Rest frame.old.stack }
+    requires local { n < length frame.old.locals }
+    ensures { OnOk result (frame.new ≡ stored n frame.old) }
 {
-    let v = pop(stack);
-    let _old = locals.replace(usize::from(n), v);
+    frame.store(usize::from(n))
 }
 
 /// Goes on where the truth value on top is true, and else jumps.
-pub(crate) fn unless(stack: &mut Stack<Value>, to: u32) -> Next
-    requires { Over IsBool Rest stack.old }
-    ensures stack { stack.new ≡ drop 1 stack.old }
-    ensures goes { result ≡ (if truth (argument stack.old 0) then next.On else next.To to) }
+pub(crate) fn unless(frame: &mut Frame, to: u32) -> Next
+    requires { Over IsBool Rest frame.old.stack }
+    ensures stack { frame.new.stack ≡ drop 1 frame.old.stack }
+    ensures rest { SameRest frame.old frame.new }
+    ensures goes { result ≡ (if truth (argument frame.old.stack 0) then next.On else next.To to) }
 {
-    if pop_bool(stack) {
+    if frame.pop_bool() {
         Next::On
     } else {
         Next::To(to)

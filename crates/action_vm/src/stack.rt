@@ -1,4 +1,4 @@
-ghost use Rattle.std.specs.Prelude.{◌≡◌, ◌∷◌, [], drop, length, reverse, slice_get, take, IfOk, OnOk, OnErr};
+ghost use Rattle.std.specs.Prelude.{◌≡◌, ◌∷◌, [], reverse, slice_get, OnOk, OnErr};
 ghost use Rattle.std.specs.Option.{option_copied};
 ghost use Rattle.action_vm.specs.Stacks.{Popped};
 
@@ -51,14 +51,5 @@ impl<T: Drop> Stack<T> {
         ensures { option_copied result ≡ slice_get self.now 0 }
     {
         self.items.last()
-    }
-
-    /// Takes off so many elements, or all where there are no more, and gives them from the lowest up.
-    pub fn take(&mut self, count: usize) -> Result<Vec<T>, NoMemory>
-        ensures taken { IfOk result (λ v. v.items ≡ reverse (take count self.old)) }
-        ensures left { OnOk result (self.new ≡ drop count self.old) }
-    {
-        let at = self.items.len().saturating_sub(count);
-        Ok(self.items.split_off(at)?)
     }
 }

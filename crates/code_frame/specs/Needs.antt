@@ -1,5 +1,6 @@
 -- What a stack has on top: a value of a sort, and below it what is wanted there. Of a program that fits, each instruction finds it.
-use Rattle.std.specs.Prelude.{List, [], ◌∷◌}
+use Rattle.std.specs.Prelude.{◌≡◌, Option, List, [], ◌∷◌}
+use Rattle.ruby_value.specs.declared.value.Ref.{Ref}
 use Rattle.ruby_value.specs.declared.value.Value.{Value}
 use Rattle.ruby_value.specs.declared.value.Value.TheVariants as value
 
@@ -30,3 +31,10 @@ abbrev pub IsReference : Value → Type 0
 IsReference (value.Entry r) = Unit {0}
 IsReference (value.Tbe r) = Unit {0}
 IsReference _ = ⊥
+
+-- a reference on top of what is left, whichever sort of value holds it
+abbrev pub IsTopReference : List Value → Option Ref → List Value → Type 0
+IsTopReference [] r left = ⊥
+IsTopReference (value.Entry held ∷ stack) r left = (held ≡ r) × (stack ≡ left)
+IsTopReference (value.Tbe held ∷ stack) r left = (held ≡ r) × (stack ≡ left)
+IsTopReference (v ∷ stack) r left = ⊥

@@ -1,0 +1,4 @@
+pub mod Slots
+pub mod Window
+pub mod Needs
+pub mod Prelude
