@@ -25,18 +25,18 @@ use Rattle.action_code.specs.declared.program.MachineDecl.{MachineDecl}
 use Rattle.action_code.specs.declared.program.Program.{Program}
 use Rattle.action_code.specs.declared.program.TableDecl.{TableDecl}
 use Rattle.action_code.specs.Prelude.{buffer_at, field_of, kind_of_table, structure_of, tables_of}
-use Rattle.code_meaning.specs.Prelude.{IsBufferAt, IsDeclared, IsTableAt, are_of_kinds, has_lines_of, is_line_of, is_of_kind}
+use Rattle.code_meaning.specs.Prelude.{IsBufferAt, IsDeclared, IsTableAt, are_of_kinds, has_lines_of, is_line_of, is_of_kind, kinds_of}
 use Rattle.code_meaning.specs.Answers.{HoldsOfAnswer as Holds}
 use Rattle.code_meaning.proofs.Gives.{Gives, act_gives, found_gives, then_gives}
 use Rattle.code_meaning.proofs.OfKind.{bare_is, plain_are, plain_is, same_structure, table_structure}
-use Rattle.code_meaning.proofs.Typed.{field_found}
+use Rattle.code_meaning.proofs.Typed.{field_found, kinds_there}
 
 module _ (p : Program) (m : Option MachineDecl) (setup : MachineSetup) (declared : IsDeclared p m setup) where
   -- the setup of a table that is declared
   pub record SetupOf (t : TableDecl) (table : ℕ) : Type 0 where
     pub setup_there : TableSetup
     pub there : slice_get setup.tables table ≡ Some setup_there
-    pub kinds : slice_get p.structures t.structure ≡ Some setup_there.kinds
+    pub kinds : kinds_of p t.structure ≡ setup_there.kinds
 
   table_in : (t : TableDecl) (table : ℕ) (o : Option TableSetup) → slice_get setup.tables table ≡ o → IsTableAt p (Some t) o → SetupOf t table
   table_in t table None is at = absurd at
@@ -48,7 +48,7 @@ module _ (p : Program) (m : Option MachineDecl) (setup : MachineSetup) (declared
   pub record BufferOf (b : BufferDecl) (buffer : ℕ) : Type 0 where
     pub setup_there : BufferSetup
     pub there : slice_get setup.buffers buffer ≡ Some setup_there
-    pub kinds : slice_get p.structures b.message ≡ Some setup_there.kinds
+    pub kinds : kinds_of p b.message ≡ setup_there.kinds
 
   buffer_in : (b : BufferDecl) (buffer : ℕ) (o : Option BufferSetup) → slice_get setup.buffers buffer ≡ o → IsBufferAt p (Some b) o → BufferOf b buffer
   buffer_in b buffer None is at = absurd at
@@ -84,8 +84,7 @@ module _ (p : Program) (m : Option MachineDecl) (setup : MachineSetup) (declared
       let s = table_setup t r.table found in
       let f = field_found p (tables_of m) (Some t.structure) field k has in
       let number : t.structure ≡ f.structure = cc f.is_structure in
-      let kinds : Some s.setup_there.kinds ≡ Some f.kinds = sym s.kinds ∙ ap (slice_get p.structures) number ∙ f.has_kinds in
-      let same : s.setup_there.kinds ≡ f.kinds = cc kinds in
+      let same : s.setup_there.kinds ≡ f.kinds = sym s.kinds ∙ kinds_there p (tables_of m) t.structure f.structure f.kinds number f.has_kinds in
       let at : slice_get s.setup_there.kinds field ≡ Some f.declared = ap (λ (ks : List Kind). slice_get ks field) same ∙ f.has_field in
       let there : slice_get v.machine.tables r.table ≡ Some s.setup_there = ap (λ (x : MachineSetup). slice_get x.tables r.table) is ∙ s.there in
       let sort : has_kind f.declared y ≡ true = same_kind s.setup_there f.declared field y at (slice_get v.machine.tables r.table) there (get_kind v r field y lawful.scan got) in

@@ -232,7 +232,7 @@ module _ (p : Program) (body : ℕ) (c : Code) (setup : MachineSetup) (declared 
                 stack = dropped 0;
                 locals = typed.locals;
                 inner = typed.inner;
-                made = more_messages p tables message s.made kinds (map default_value (kinds_of p message)) h.made has (subst (λ ks. are_of_kinds tables kinds (map default_value ks) ≡ true) (sym same) (defaults_are tables kinds)) typed.made;
+                made = more_messages p tables message s.made kinds (map default_value (kinds_of p message)) h.made same (subst (λ ks. are_of_kinds tables kinds (map default_value ks) ≡ true) (sym same) (defaults_are tables kinds)) typed.made;
               },
             )
 

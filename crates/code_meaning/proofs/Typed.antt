@@ -1,5 +1,5 @@
 -- What a run has of its own has the kinds that are known of it at a place of its body; and so it has those of each shape like that.
-use Rattle.std.proofs.Common.{◌≡◌, ℕ, ◌==◌, ◌&&◌, true, Option, None, Some, List, [], ◌∷◌, drop, map, slice_get, slice_set, bytes_eq, refl, sym, ap, subst, ◌∙◌}
+use Rattle.std.proofs.Common.{◌≡◌, ℕ, ◌==◌, ◌&&◌, true, Option, None, Some, List, [], ◌∷◌, drop, map, slice_get, slice_set, unwrap_or, bytes_eq, refl, sym, ap, subst, ◌∙◌}
 use Rattle.std.proofs.lemmas.Bool.{and_from, and_parts, eqb-true}
 use Rattle.std.specs.Option.{option_and_then, option_map}
 use Rattle.ruby_value.specs.declared.kind.Kind.{Kind}
@@ -10,7 +10,7 @@ use Rattle.action_code.specs.declared.program.Program.{Program}
 use Rattle.action_code.specs.declared.program.TableDecl.{TableDecl}
 use Rattle.action_code.specs.declared.shape.Shape.{Shape}
 use Rattle.action_code.specs.Prelude.{bare, empty_shape, field_of, machine_of, same_shape, tables_of}
-use Rattle.code_meaning.specs.Prelude.{Held, IsTyped, are_messages, are_of_kinds, entered, innermost, is_message, is_of_kind}
+use Rattle.code_meaning.specs.Prelude.{Held, IsTyped, are_messages, are_of_kinds, entered, innermost, is_of_kind, kinds_of}
 use Rattle.code_meaning.proofs.OfKind.{append_kinds, bare_is, defaults_are, found_kinds, same_are, set_kinds}
 
 same_numbers : (xs ys : List ℕ) → bytes_eq xs ys ≡ true → xs ≡ ys
@@ -50,12 +50,12 @@ module _ (p : Program) (tables : List TableDecl) where
   drop_messages [] [] h = refl
   drop_messages [] (m ∷ messages) h = absurd (cc h)
   drop_messages (n ∷ types) [] h = absurd (cc h)
-  drop_messages (n ∷ types) (m ∷ messages) h = (and_parts (is_message tables (slice_get p.structures n) m) (are_messages p tables types messages) h).1
+  drop_messages (n ∷ types) (m ∷ messages) h = (and_parts (are_of_kinds tables (kinds_of p n) m) (are_messages p tables types messages) h).1
 
-  pub more_messages : (n : ℕ) (types : List ℕ) (kinds : List Kind) (m : List Value) (messages : List (List Value)) → slice_get p.structures n ≡ Some kinds → are_of_kinds tables kinds m ≡ true
+  pub more_messages : (n : ℕ) (types : List ℕ) (kinds : List Kind) (m : List Value) (messages : List (List Value)) → kinds_of p n ≡ kinds → are_of_kinds tables kinds m ≡ true
       → are_messages p tables types messages ≡ true → are_messages p tables (n ∷ types) (m ∷ messages) ≡ true
   more_messages n types kinds m messages found is h =
-      and_from (is_message tables (slice_get p.structures n) m) (are_messages p tables types messages) (ap (λ o. is_message tables o m) found ∙ is) h
+      and_from (are_of_kinds tables (kinds_of p n) m) (are_messages p tables types messages) (ap (λ ks. are_of_kinds tables ks m) found ∙ is) h
 
   -- a field's kind, as verification has it, is that of the structure's field
   pub record FieldOf (n : Option ℕ) (field : ℕ) (k : Kind) : Type 0 where
@@ -84,9 +84,9 @@ module _ (p : Program) (tables : List TableDecl) where
   field_found None field k found = absurd (cc found)
   field_found (Some n) field k found = field_in n field k (slice_get p.structures n) refl (option_and_then (λ (fields : List Kind). slice_get fields field) (slice_get p.structures n)) refl found
 
-  fields_read : (o : Option (List Kind)) (kinds : List Kind) (field : ℕ) (declared : Kind) (m : List Value) (v : Value) → o ≡ Some kinds → is_message tables o m ≡ true → slice_get kinds field ≡ Some declared → slice_get m field ≡ Some v → is_of_kind tables declared v ≡ true
-  fields_read o kinds field declared m v is fits found here =
-      found_kinds tables kinds m field declared v (subst (λ x. is_message tables x m ≡ true) is fits) found here
+  -- a message has the fields of its type's structure
+  pub kinds_there : (n structure : ℕ) (kinds : List Kind) → n ≡ structure → slice_get p.structures structure ≡ Some kinds → kinds_of p n ≡ kinds
+  kinds_there n structure kinds is found = ap (kinds_of p) is ∙ ap (λ (o : Option (List Kind)). unwrap_or o []) found
 
   -- what is read of the innermost message
   pub message_read : (types : List ℕ) (messages : List (List Value)) (field : ℕ) (k : Kind) (v : Value) → are_messages p tables types messages ≡ true → field_of p (slice_get types 0) field ≡ Some k
@@ -96,8 +96,9 @@ module _ (p : Program) (tables : List TableDecl) where
   message_read (n ∷ types) (m ∷ messages) field k v h found is =
       let f = field_found (Some n) field k found in
       let number : n ≡ f.structure = cc f.is_structure in
-      let here : slice_get p.structures n ≡ Some f.kinds = ap (slice_get p.structures) number ∙ f.has_kinds in
-      let of : is_of_kind tables f.declared v ≡ true = fields_read (slice_get p.structures n) f.kinds field f.declared m v here (and_parts (is_message tables (slice_get p.structures n) m) (are_messages p tables types messages) h).0 f.has_field is in
+      let here : kinds_of p n ≡ f.kinds = kinds_there n f.structure f.kinds number f.has_kinds in
+      let fits : are_of_kinds tables f.kinds m ≡ true = subst (λ ks. are_of_kinds tables ks m ≡ true) here (and_parts (are_of_kinds tables (kinds_of p n) m) (are_messages p tables types messages) h).0 in
+      let of : is_of_kind tables f.declared v ≡ true = found_kinds tables f.kinds m field f.declared v fits f.has_field is in
       subst (λ x. is_of_kind tables x v ≡ true) f.is_kind (sym (bare_is tables f.declared v) ∙ of)
 
   -- and what is written of it
@@ -108,8 +109,8 @@ module _ (p : Program) (tables : List TableDecl) where
   message_written (n ∷ types) (m ∷ messages) field k v h found is =
       let f = field_found (Some n) field k found in
       let number : n ≡ f.structure = cc f.is_structure in
-      let here : slice_get p.structures n ≡ Some f.kinds = ap (slice_get p.structures) number ∙ f.has_kinds in
-      let parts = and_parts (is_message tables (slice_get p.structures n) m) (are_messages p tables types messages) h in
-      let fits : are_of_kinds tables f.kinds m ≡ true = subst (λ x. is_message tables x m ≡ true) here parts.0 in
+      let here : kinds_of p n ≡ f.kinds = kinds_there n f.structure f.kinds number f.has_kinds in
+      let parts = and_parts (are_of_kinds tables (kinds_of p n) m) (are_messages p tables types messages) h in
+      let fits : are_of_kinds tables f.kinds m ≡ true = subst (λ ks. are_of_kinds tables ks m ≡ true) here parts.0 in
       let of : is_of_kind tables f.declared v ≡ true = bare_is tables f.declared v ∙ subst (λ x. is_of_kind tables x v ≡ true) (sym f.is_kind) is in
       more_messages n types f.kinds (slice_set m field v) messages here (set_kinds tables f.kinds m field f.declared v fits f.has_field of) parts.1

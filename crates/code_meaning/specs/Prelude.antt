@@ -5,5 +5,5 @@ pub use Rattle.code_meaning.specs.Running.{bodies_below, enter, entered, exec, f
 unfoldable pub use Rattle.code_meaning.specs.Running.{run_body}
 pub use Rattle.code_meaning.specs.Kinds.{are_of_kinds, has_lines_of, is_end_of, is_line_of, is_of_kind, is_reference_of}
 pub use Rattle.code_meaning.specs.Setups.{IsBuffer, IsBufferAt, IsDeclared, IsTable, IsTableAt, place_of, sort_of}
-pub use Rattle.code_meaning.specs.Typed.{IsTyped, are_messages, is_message}
+pub use Rattle.code_meaning.specs.Typed.{IsTyped, are_messages}
 pub use Rattle.code_meaning.specs.Answers.{HoldsOfAnswer, IsAnswer}

@@ -1,5 +1,6 @@
 -- What a program declares of a machine is what the machine is to its controllers: table by table the same sort of table and the same
--- kinds of fields, buffer by buffer the same kind of place and the same kinds of fields, and the built-in map of states or none. Of a
+-- kinds of fields, buffer by buffer the same kind of place and the same kinds of fields, and the built-in map of states or none. Where a
+-- machine lacks the type of a table's lines or of a buffer's messages, there is no structure of that number, and they have no fields. Of a
 -- machine that the program doesn't declare it has no tables and no buffers.
 use Rattle.std.specs.Prelude.{◌≡◌, ℕ, Option, None, Some, is_some, slice_get}
 use Rattle.ruby_value.specs.declared.setup.BufferPlace.{BufferPlace}
@@ -18,6 +19,7 @@ use Rattle.action_code.specs.declared.program.TableDecl.{TableDecl}
 use Rattle.action_code.specs.declared.program.TableSort.{TableSort}
 use Rattle.action_code.specs.declared.program.TableSort.TheVariants as sort
 use Rattle.action_code.specs.Prelude.{buffer_at, has_map, tables_of}
+use Rattle.code_meaning.specs.Stepping.{kinds_of}
 
 abbrev pub sort_of : TableSize → TableSort
 sort_of (size.Cache sets ways) = sort.Cache
@@ -32,11 +34,11 @@ place_of (buffer_place.From network) = place.From
 
 pub record IsTable (p : Program) (t : TableDecl) (s : TableSetup) : Type 0 where
   pub sort : t.sort ≡ sort_of s.size
-  pub kinds : slice_get p.structures t.structure ≡ Some s.kinds
+  pub kinds : kinds_of p t.structure ≡ s.kinds
 
 pub record IsBuffer (p : Program) (b : BufferDecl) (s : BufferSetup) : Type 0 where
   pub place : b.place ≡ place_of s.place
-  pub kinds : slice_get p.structures b.message ≡ Some s.kinds
+  pub kinds : kinds_of p b.message ≡ s.kinds
 
 -- at each number there is a table, or a buffer, exactly where the program has one
 abbrev pub IsTableAt : Program → Option TableDecl → Option TableSetup → Type 0
