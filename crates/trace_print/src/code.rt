@@ -102,7 +102,8 @@ fn truth_digit(b: bool) -> &'static [u8]
 }
 
 fn add_int<S: Sink>(sink: &mut S, line: &mut Held, n: i64) -> bool
-    ensures { IsAdded S.writes sink.old line.old.items (spaced (codes "Int" ∷ signed_decimal n ∷ [])) result sink.new line.new.items }
+    ensures { IsAdded S.writes sink.old line.old.items
+        (spaced (codes "Int" ∷ signed_decimal n ∷ [])) result sink.new line.new.items }
 {
     let mut digits = Buffer::new();
     let n = Word::Bytes(digits.format(n).as_bytes());
@@ -111,7 +112,8 @@ fn add_int<S: Sink>(sink: &mut S, line: &mut Held, n: i64) -> bool
 
 // The controllers of a set, each after a space.
 fn add_each<S: Sink>(sink: &mut S, line: &mut Held, members: &NetDest) -> bool
-    ensures { IsAdded S.writes sink.old line.old.items (spaced (map decimal (controllers_in members.now))) result sink.new line.new.items }
+    ensures { IsAdded S.writes sink.old line.old.items
+        (spaced (map decimal (controllers_in members.now))) result sink.new line.new.items }
 {
     let _count = members.count();
     let mut from: u64 = 0;
@@ -128,7 +130,9 @@ fn add_each<S: Sink>(sink: &mut S, line: &mut Held, members: &NetDest) -> bool
 }
 
 fn add_set<S: Sink>(sink: &mut S, line: &mut Held, members: &NetDest) -> bool
-    ensures { IsAdded S.writes sink.old line.old.items (spaced (codes "Dest" ∷ map decimal (controllers_in members.now))) result sink.new line.new.items }
+    ensures { IsAdded S.writes sink.old line.old.items
+        (spaced (codes "Dest" ∷ map decimal (controllers_in members.now))) result sink.new
+        line.new.items }
 {
     if !add_spaced(sink, line, &Word::Bytes(b"Dest")) {
         return false;
@@ -137,7 +141,9 @@ fn add_set<S: Sink>(sink: &mut S, line: &mut Held, members: &NetDest) -> bool
 }
 
 fn add_block<S: Sink>(sink: &mut S, line: &mut Held, block: &Block) -> bool
-    ensures { IsAdded S.writes sink.old line.old.items (spaced (codes "Block" ∷ encode_lower block.now.bytes ∷ [])) result sink.new line.new.items }
+    ensures { IsAdded S.writes sink.old line.old.items
+        (spaced (codes "Block" ∷ encode_lower block.now.bytes ∷ [])) result sink.new
+        line.new.items }
 {
     let mut digits = [0; 128];
     hex::encode_to_slice(block.bytes.as_slice(), &mut digits).unwrap();
@@ -152,7 +158,8 @@ fn add_reference<S: Sink>(
     r: Option<Ref>,
     structure: u16,
 ) -> bool
-    ensures { IsAdded S.writes sink.old line.old.items (spaced (kind.now ∷ reference_words r structure)) result sink.new line.new.items }
+    ensures { IsAdded S.writes sink.old line.old.items
+        (spaced (kind.now ∷ reference_words r structure)) result sink.new line.new.items }
 {
     let kind = Word::Bytes(kind);
     match r {
@@ -166,7 +173,8 @@ fn add_reference<S: Sink>(
 }
 
 fn add_value<S: Sink>(sink: &mut S, line: &mut Held, v: &Value, structure: u16) -> bool
-    ensures { IsAdded S.writes sink.old line.old.items (spaced (value_words v.now structure)) result sink.new line.new.items }
+    ensures { IsAdded S.writes sink.old line.old.items (spaced (value_words v.now structure)) result
+        sink.new line.new.items }
 {
     match v {
         Value::Bool(b) => add_words(
@@ -198,7 +206,8 @@ fn add_value<S: Sink>(sink: &mut S, line: &mut Held, v: &Value, structure: u16) 
 }
 
 fn add_fault<S: Sink>(sink: &mut S, line: &mut Held, fault: &Fault) -> bool
-    ensures { IsAdded S.writes sink.old line.old.items (spaced (fault_words fault.now)) result sink.new line.new.items }
+    ensures { IsAdded S.writes sink.old line.old.items (spaced (fault_words fault.now)) result
+        sink.new line.new.items }
 {
     let word = Word::Bytes(fault_word(fault));
     let Fault::Error(given) = fault else {
@@ -208,7 +217,8 @@ fn add_fault<S: Sink>(sink: &mut S, line: &mut Held, fault: &Fault) -> bool
 }
 
 fn add_operands<S: Sink>(sink: &mut S, line: &mut Held, operands: Operands<'_>) -> bool
-    ensures { IsAdded S.writes sink.old line.old.items (spaced (words_of operands.entry)) result sink.new line.new.items }
+    ensures { IsAdded S.writes sink.old line.old.items (spaced (words_of operands.entry)) result
+        sink.new line.new.items }
 {
     match operands {
         Operands::Nothing => add_words(sink, line, &[]),
@@ -239,7 +249,8 @@ fn write_instr<S: Sink>(sink: &mut S, at: usize, i: &Instr) -> bool
 }
 
 fn write_instrs<S: Sink>(sink: &mut S, instructions: &[Instr]) -> bool
-    ensures { AreLinesPut S.writes sink.old (lines_from (λ at i. instr_line at i ∷ []) 0 instructions.now) result sink.new }
+    ensures { AreLinesPut S.writes sink.old (lines_from (λ at i. instr_line at i ∷ []) 0
+        instructions.now) result sink.new }
 {
     for (at, i) in instructions.iter().enumerate() {
         if !write_instr(sink, at, i) {
@@ -274,7 +285,8 @@ fn write_bodies<S: Sink>(sink: &mut S, bodies: &[Code]) -> bool
 /// written.
 pub fn write_code<S: Sink>(sink: &mut S, code: &Verified) -> bool
     ensures pieces { AreLinesPut S.writes sink.old (code_lines code.now) result sink.new }
-    ensures written { IsWritten (S.written sink.old) (S.faults sink.old) (text_of (code_lines code.now)) result (S.written sink.new) (S.faults sink.new) }
+    ensures written { IsWritten (S.written sink.old) (S.faults sink.old)
+        (text_of (code_lines code.now)) result (S.written sink.new) (S.faults sink.new) }
 {
     write_bodies(sink, code.program().bodies.as_slice())
 }
