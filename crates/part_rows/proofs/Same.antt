@@ -1,5 +1,5 @@
 -- When kinds are the same, and tables and buffers what is declared.
-use Rattle.std.proofs.Common.{◌≡◌, ◌==◌, ℕ, zero, suc, true, IsTrue, List, [], ◌∷◌, slice_get, refl, ap, ◌∙◌, eqb-true}
+use Rattle.std.proofs.Common.{◌≡◌, ℕ, zero, suc, true, List, [], ◌∷◌, slice_get, refl, ap, ◌∙◌, eqb-true}
 use Rattle.ruby_value.specs.declared.kind.Kind.{Kind}
 use Rattle.ruby_value.specs.declared.kind.Kind.TheVariants as kind
 use Rattle.ruby_value.specs.Prelude.{equal_kinds}
