@@ -36,7 +36,7 @@ least_broken one two three four five six =
     else if not five then Some 5
     else if not six then Some 6 else None
 
--- of an instruction with this sign, before which there is this shape and the ways clash or don't, of a body of so many
+-- of an instruction with this sign, before which there is this shape and the ways clash or don't, of a body of this many
 abbrev pub rule_broken : Option MachineDecl → (count at : ℕ) → (clash : Bool) → Shape → Sign → Instr → Option ℕ
 rule_broken m count at clash s sg i =
     least_broken (has_operands sg s) (operands_fit m sg.on sg.takes s.stack) (jumps_forward count at (target i)) (not clash) sg.known

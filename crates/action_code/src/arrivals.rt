@@ -47,7 +47,7 @@ fn arrive(before: Arrival, s: Shape) -> Arrival
     }
 }
 
-/// Of so many places to which no way leads.
+/// Of `count` places to which no way leads.
 pub fn no_arrivals(alloc: Global, count: usize) -> Result<Seq<Arrival>, NoMemory>
     ensures { IfOk result (λ table. table ≡ replicate count no_arrival) }
 {

@@ -124,7 +124,8 @@ fn send_on(
     requires jumps { IsTrue (jumps_forward (length table.old) at (target i.now)) }
     requires stays { IsTrue (stays_within (length table.old) at i.now) }
     ensures holds { (ways : List Way) (from : ℕ) → Holds table.old ways from
-        → IfOk result (λ _. Holds table.new (with_ways at i.now (shape_after p.now c.now s i.now sg.now) ways) from) }
+        → IfOk result (λ _. Holds table.new (with_ways at i.now
+        (shape_after p.now c.now s i.now sg.now) ways) from) }
     ensures count { length table.new ≡ length table.old }
 {
     let after = shape_after(p, c, s, i, sg)?;
@@ -135,7 +136,12 @@ fn send_on(
 
 // That a rule is broken at this place.
 fn broken(alloc: Global, rule: u8, body: u32, at: u32, s: &Shape) -> Result<(), CodeFault>
-    ensures { Answers (Some (record { rule = rule; body = body; at = at; kept = reverse s.now.stack })) result }
+    ensures { Answers (Some (record {
+      rule = rule;
+      body = body;
+      at = at;
+      kept = reverse s.now.stack;
+    })) result }
 {
     let kept = Seq::copied(alloc, s.stack.as_slice())?;
     Err(CodeFault::Broken {
@@ -168,7 +174,8 @@ fn check_at(
     requires count { length table.old ≡ length c.now.instructions }
     requires holds { Holds table.old (ways_before p.now body c.now at) at }
     ensures judged { Answers (broken_at p.now body c.now at) result }
-    ensures holds { IfOk result (λ _. Holds table.new (ways_before p.now body c.now (at + 1)) (at + 1)) }
+    ensures holds { IfOk result (λ _. Holds table.new (ways_before p.now body c.now (at + 1))
+        (at + 1)) }
     ensures count { length table.new ≡ length table.old }
 {
     let i = &c.instructions[at as usize];

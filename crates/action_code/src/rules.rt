@@ -61,7 +61,7 @@ fn stays_within(count: usize, at: usize, i: &Instr) -> bool
     !continues(i) || at + 1 < count
 }
 
-/// The least rule that an instruction with this sign breaks, of a body of so many instructions, where there is this shape before it and
+/// The least rule that an instruction with this sign breaks, of a body of this many instructions, where there is this shape before it and
 /// the ways to it clash or don't.
 pub fn rule_broken(
     m: Option<&MachineDecl>,

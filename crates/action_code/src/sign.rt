@@ -163,7 +163,12 @@ fn turns(
     gives: Option<Kind>,
     known: bool,
 ) -> Result<Sign, NoMemory>
-    ensures { IfOk result (λ s. s ≡ record { on = 0; takes = takes.now; gives = gives; known = known }) }
+    ensures { IfOk result (λ s. s ≡ record {
+      on = 0;
+      takes = takes.now;
+      gives = gives;
+      known = known;
+    }) }
 {
     Ok(Sign {
         on: 0,
@@ -174,14 +179,24 @@ fn turns(
 }
 
 fn reads(alloc: Global, takes: &[Operand], found: Option<Kind>) -> Result<Sign, NoMemory>
-    ensures { IfOk result (λ s. s ≡ record { on = 0; takes = takes.now; gives = found; known = is_some found }) }
+    ensures { IfOk result (λ s. s ≡ record {
+      on = 0;
+      takes = takes.now;
+      gives = found;
+      known = is_some found;
+    }) }
 {
     turns(alloc, takes, found, found.is_some())
 }
 
 // It takes a value of the kind of what it names, from above these.
 fn writes(alloc: Global, below: &[Operand], found: Option<Kind>) -> Result<Sign, NoMemory>
-    ensures { IfOk result (λ s. s ≡ record { on = 0; takes = wanted found ∷ below.now; gives = None; known = is_some found }) }
+    ensures { IfOk result (λ s. s ≡ record {
+      on = 0;
+      takes = wanted found ∷ below.now;
+      gives = None;
+      known = is_some found;
+    }) }
 {
     Ok(Sign {
         on: 0,
@@ -197,7 +212,8 @@ fn operation_sign(
     on: u16,
     operation: Option<&Operation>,
 ) -> Result<Sign, NoMemory>
-    ensures { IfOk result (λ s. s ≡ operation_sign (option_copied m.entry) on (option_copied operation.entry)) }
+    ensures { IfOk result (λ s. s ≡ operation_sign (option_copied m.entry) on
+        (option_copied operation.entry)) }
 {
     let Some(o) = operation else {
         return Ok(Sign {
@@ -258,7 +274,12 @@ fn call_sign(
 
 // Of an instruction that takes the body's result.
 fn result_sign(alloc: Global, result_kind: Option<Kind>) -> Result<Sign, NoMemory>
-    ensures { IfOk result (λ s. s ≡ record { on = 0; takes = result_operand result_kind; gives = None; known = true }) }
+    ensures { IfOk result (λ s. s ≡ record {
+      on = 0;
+      takes = result_operand result_kind;
+      gives = None;
+      known = true;
+    }) }
 {
     match result_kind {
         None => turns(alloc, &[], None, true),

@@ -63,7 +63,7 @@ impl<T: Copy> Stack<T> {
     }
 
     #[tactic(auto, using(crate::proofs::Reversed::reverse_take))]
-    /// Takes off so many elements, or all where there are no more.
+    /// Takes off `count` elements, or all where there are fewer.
     pub fn pop(&mut self, count: usize)
         ensures { self.new ≡ drop count self.old }
     {

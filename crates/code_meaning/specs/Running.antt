@@ -13,13 +13,13 @@ use Rattle.code_meaning.specs.declared.code_end.CodeEnd.TheVariants.{Nothing}
 use Rattle.code_meaning.specs.Held.{Held, Step, On, To, Over}
 use Rattle.code_meaning.specs.Stepping.{Bodies, code_step}
 
--- the rest of a run by a step at this place, where the rest goes on after so many instructions
+-- the rest of a run by a step at this place, where the rest goes on after a number of instructions that it skips
 abbrev pub follow : ℕ → (ℕ → Held → Acting CodeEnd) → Step → Acting CodeEnd
 follow at rest (On h) = rest 0 h
 follow at rest (To to h) = rest (to - (at + 1)) h
 follow at rest (Over end) = ends end
 
--- of instructions that begin at a place those after so many
+-- the instructions, which begin at a place, but for the first ones, which are skipped
 abbrev pub exec : Program → Code → Bodies → List Instr → (at skip : ℕ) → Held → Acting CodeEnd
 exec p c calls [] at skip h = ends Nothing
 exec p c calls (i ∷ instructions) at (suc skip) h = exec p c calls instructions (at + 1) skip h

@@ -5,6 +5,7 @@
 #![tactic(auto)]
 
 mod calls;
+mod code;
 mod lists;
 mod pairs;
 mod protocols;
@@ -21,6 +22,8 @@ pub fn add_parts<L: Library>(rows: &mut RowText, library: &mut L) {
     symbols::add(rows, library);
     rows.add("# calls\n");
     calls::add(rows, library);
+    rows.add("# code\n");
+    code::add(rows, library);
     rows.add("# topologies\n");
     topologies::add(rows, library);
     rows.add("# tester\n");

@@ -1,7 +1,9 @@
 pub mod Adding
 pub mod Digits
 pub mod LineParts
+pub mod LinesFrom
 pub mod Listing
+pub mod Members
 pub mod NameParts
 pub mod Putting
 pub mod RowParts

@@ -1,8 +1,10 @@
 pub mod Adding
+pub mod Code
 pub mod Ends
 pub mod Entries
 pub mod Lines
 pub mod Names
+pub mod Operands
 pub mod Pieces
 pub mod Rows
 pub mod Words

@@ -35,7 +35,8 @@ fn write_final<'a, S: Sink>(
     names: &'a [Text],
     last: &Final,
 ) -> bool
-    ensures { IsLinePut S.writes sink.old (final_line symbols.now names.now last.now) result sink.new }
+    ensures { IsLinePut S.writes sink.old (final_line symbols.now names.now last.now) result
+        sink.new }
 {
     let m = controller_machine(symbols, names, last.controller);
     write_line(
@@ -50,7 +51,8 @@ fn write_final<'a, S: Sink>(
 }
 
 fn write_finals<S: Sink>(sink: &mut S, symbols: &Symbols, names: &[Text], finals: &[Final]) -> bool
-    ensures { AreLinesPut S.writes sink.old (map (final_line symbols.now names.now) finals.now) result sink.new }
+    ensures { AreLinesPut S.writes sink.old (map (final_line symbols.now names.now) finals.now)
+        result sink.new }
 {
     for last in finals {
         if !write_final(sink, symbols, names, last) {
@@ -82,14 +84,16 @@ fn write_account<S: Sink>(sink: &mut S, account: &Account) -> bool
 
 // The words of a verdict that has a cycle alone.
 fn add_cycle<S: Sink>(sink: &mut S, line: &mut Held, word: &[u8], cycle: u64) -> bool
-    ensures { IsAdded S.writes sink.old line.old.items (spaced (word.now ∷ decimal cycle ∷ [])) result sink.new line.new.items }
+    ensures { IsAdded S.writes sink.old line.old.items (spaced (word.now ∷ decimal cycle ∷ []))
+        result sink.new line.new.items }
 {
     add_words(sink, line, &[Word::Bytes(word), Word::Number(cycle)])
 }
 
 // The words of a verdict that has a number beside its cycle.
 fn add_numbers<S: Sink>(sink: &mut S, line: &mut Held, word: &[u8], cycle: u64, number: u64) -> bool
-    ensures { IsAdded S.writes sink.old line.old.items (spaced (word.now ∷ decimal cycle ∷ decimal number ∷ [])) result sink.new line.new.items }
+    ensures { IsAdded S.writes sink.old line.old.items
+        (spaced (word.now ∷ decimal cycle ∷ decimal number ∷ [])) result sink.new line.new.items }
 {
     add_words(
         sink,
@@ -99,7 +103,8 @@ fn add_numbers<S: Sink>(sink: &mut S, line: &mut Held, word: &[u8], cycle: u64, 
 }
 
 fn add_verdict<S: Sink>(sink: &mut S, line: &mut Held, names: &[Text], verdict: &Verdict) -> bool
-    ensures { IsAdded S.writes sink.old line.old.items (spaced (verdict_words names.now verdict.now)) result sink.new line.new.items }
+    ensures { IsAdded S.writes sink.old line.old.items
+        (spaced (verdict_words names.now verdict.now)) result sink.new line.new.items }
 {
     match *verdict {
         Verdict::Stop { cycle, controller } => add_words(
@@ -164,7 +169,9 @@ pub fn write_verdict<S: Sink>(
     names: &[Text],
     verdict: &Verdict,
 ) -> bool
-    ensures { IsLinePut S.writes sink.old (line_of (first.now ∷ map word_bytes others.now ++ verdict_words names.now verdict.now)) result sink.new }
+    ensures { IsLinePut S.writes sink.old (line_of
+        (first.now ∷ map word_bytes others.now ++ verdict_words names.now verdict.now)) result
+        sink.new }
 {
     let mut line = ArrayVec::new();
     if !begin_line(sink, &mut line, first, others) {
@@ -179,8 +186,12 @@ pub fn write_verdict<S: Sink>(
 /// Writes the lines of a run that follow its journal: the final states, where the messages are, and the verdict. It answers whether all
 /// were written whole, and writes nothing after one that wasn't, of which a beginning is written.
 pub fn write_rest<S: Sink>(sink: &mut S, r: &RunText<'_>) -> bool
-    ensures pieces { AreLinesPut S.writes sink.old (rest_lines (symbols_of r.now.plan.now) r.now.names.now r.now.finals.now r.now.account.now r.now.verdict.now) result sink.new }
-    ensures written { IsWritten (S.written sink.old) (S.faults sink.old) (text_of (rest_lines (symbols_of r.now.plan.now) r.now.names.now r.now.finals.now r.now.account.now r.now.verdict.now)) result (S.written sink.new) (S.faults sink.new) }
+    ensures pieces { AreLinesPut S.writes sink.old
+        (rest_lines (symbols_of r.now.plan.now) r.now.names.now r.now.finals.now r.now.account.now
+        r.now.verdict.now) result sink.new }
+    ensures written { IsWritten (S.written sink.old) (S.faults sink.old)
+        (text_of (rest_lines (symbols_of r.now.plan.now) r.now.names.now r.now.finals.now
+        r.now.account.now r.now.verdict.now)) result (S.written sink.new) (S.faults sink.new) }
 {
     if !write_finals(sink, r.plan.symbols(), r.names, r.finals) {
         return false;

@@ -24,7 +24,8 @@ fn write_fired<'a, S: Sink>(
     name: &'a [u8],
     note: &FireNote,
 ) -> bool
-    ensures { IsLinePut S.writes sink.old (fired_line symbols.now (option_copied m.entry) cycle name.now note.now) result sink.new }
+    ensures { IsLinePut S.writes sink.old (fired_line symbols.now (option_copied m.entry) cycle
+        name.now note.now) result sink.new }
 {
     let mut digits = Buffer::new();
     write_line(
@@ -97,7 +98,8 @@ fn write_stop<'a, S: Sink>(
     name: &'a [u8],
     at: &'a StopAt,
 ) -> bool
-    ensures { IsLinePut S.writes sink.old (stop_line symbols.now (option_copied m.entry) cycle name.now at.now) result sink.new }
+    ensures { IsLinePut S.writes sink.old (stop_line symbols.now (option_copied m.entry) cycle
+        name.now at.now) result sink.new }
 {
     let cycle = Word::Number(cycle);
     let name = Word::Bytes(name);
@@ -124,7 +126,8 @@ fn write_end<S: Sink>(
     name: &[u8],
     end: EndRef<'_>,
 ) -> bool
-    ensures { AreLinesPut S.writes sink.old (end_lines symbols.now (option_copied m.entry) cycle name.now (end_of end.entry)) result sink.new }
+    ensures { AreLinesPut S.writes sink.old (end_lines symbols.now (option_copied m.entry) cycle
+        name.now (end_of end.entry)) result sink.new }
 {
     match end {
         EndRef::Idle => true,
@@ -136,8 +139,11 @@ fn write_end<S: Sink>(
 /// Writes the line of an entry that a run's journal lends, which a fired transition and a fault have and other entries haven't, and answers
 /// whether it was written whole. Where it wasn't, a beginning of it was. The names are those of the controllers, by number.
 pub fn write_entry<S: Sink>(sink: &mut S, plan: &Plan, names: &Seq<Text>, e: EntryRef<'_>) -> bool
-    ensures pieces { AreLinesPut S.writes sink.old (entry_lines (symbols_of plan.now) names.now (entry_of e.entry)) result sink.new }
-    ensures written { IsWritten (S.written sink.old) (S.faults sink.old) (text_of (entry_lines (symbols_of plan.now) names.now (entry_of e.entry))) result (S.written sink.new) (S.faults sink.new) }
+    ensures pieces { AreLinesPut S.writes sink.old
+        (entry_lines (symbols_of plan.now) names.now (entry_of e.entry)) result sink.new }
+    ensures written { IsWritten (S.written sink.old) (S.faults sink.old)
+        (text_of (entry_lines (symbols_of plan.now) names.now (entry_of e.entry))) result
+        (S.written sink.new) (S.faults sink.new) }
 {
     let symbols = plan.symbols();
     match e {

@@ -67,13 +67,15 @@ pub enum Word<'a> {
 }
 
 fn add_number<S: Sink>(sink: &mut S, line: &mut Held, number: u64) -> bool
-    ensures { IsAdded S.writes sink.old line.old.items (decimal number) result sink.new line.new.items }
+    ensures { IsAdded S.writes sink.old line.old.items (decimal number) result sink.new
+        line.new.items }
 {
     add(sink, line, Buffer::new().format(number).as_bytes())
 }
 
 fn add_address<S: Sink>(sink: &mut S, line: &mut Held, address: u64) -> bool
-    ensures { IsAdded S.writes sink.old line.old.items (hexadecimal address) result sink.new line.new.items }
+    ensures { IsAdded S.writes sink.old line.old.items (hexadecimal address) result sink.new
+        line.new.items }
 {
     let mut buffer = [0; MOST_DIGITS];
     let start = write_digits(address, &mut buffer);
@@ -84,7 +86,8 @@ fn add_address<S: Sink>(sink: &mut S, line: &mut Held, address: u64) -> bool
 }
 
 fn add_numbered<S: Sink>(sink: &mut S, line: &mut Held, name: &[u8], number: u64) -> bool
-    ensures { IsAdded S.writes sink.old line.old.items (numbered name.now number) result sink.new line.new.items }
+    ensures { IsAdded S.writes sink.old line.old.items (numbered name.now number) result sink.new
+        line.new.items }
 {
     if !add(sink, line, name) {
         return false;
@@ -94,7 +97,8 @@ fn add_numbered<S: Sink>(sink: &mut S, line: &mut Held, name: &[u8], number: u64
 
 // A number after a colon.
 fn add_part<S: Sink>(sink: &mut S, line: &mut Held, number: u32) -> bool
-    ensures { IsAdded S.writes sink.old line.old.items (58 ∷ decimal number) result sink.new line.new.items }
+    ensures { IsAdded S.writes sink.old line.old.items (58 ∷ decimal number) result sink.new
+        line.new.items }
 {
     if !add(sink, line, b":") {
         return false;
@@ -103,7 +107,8 @@ fn add_part<S: Sink>(sink: &mut S, line: &mut Held, number: u32) -> bool
 }
 
 fn add_place<S: Sink>(sink: &mut S, line: &mut Held, file: &[u8], at_line: u32, column: u32) -> bool
-    ensures { IsAdded S.writes sink.old line.old.items (place file.now at_line column) result sink.new line.new.items }
+    ensures { IsAdded S.writes sink.old line.old.items (place file.now at_line column) result
+        sink.new line.new.items }
 {
     if !add(sink, line, file) {
         return false;
@@ -115,7 +120,8 @@ fn add_place<S: Sink>(sink: &mut S, line: &mut Held, file: &[u8], at_line: u32, 
 }
 
 fn add_word<S: Sink>(sink: &mut S, line: &mut Held, word: &Word<'_>) -> bool
-    ensures { IsAdded S.writes sink.old line.old.items (word_bytes word.now) result sink.new line.new.items }
+    ensures { IsAdded S.writes sink.old line.old.items (word_bytes word.now) result sink.new
+        line.new.items }
 {
     match *word {
         Word::Bytes(bytes) => add(sink, line, bytes),
@@ -128,7 +134,8 @@ fn add_word<S: Sink>(sink: &mut S, line: &mut Held, word: &Word<'_>) -> bool
 
 /// Adds a word after a space.
 pub(crate) fn add_spaced<S: Sink>(sink: &mut S, line: &mut Held, word: &Word<'_>) -> bool
-    ensures { IsAdded S.writes sink.old line.old.items (32 ∷ word_bytes word.now) result sink.new line.new.items }
+    ensures { IsAdded S.writes sink.old line.old.items (32 ∷ word_bytes word.now) result sink.new
+        line.new.items }
 {
     if !add(sink, line, b" ") {
         return false;
@@ -138,7 +145,8 @@ pub(crate) fn add_spaced<S: Sink>(sink: &mut S, line: &mut Held, word: &Word<'_>
 
 /// Adds words, each after a space.
 pub(crate) fn add_words<S: Sink>(sink: &mut S, line: &mut Held, words: &[Word<'_>]) -> bool
-    ensures { IsAdded S.writes sink.old line.old.items (spaced (map word_bytes words.now)) result sink.new line.new.items }
+    ensures { IsAdded S.writes sink.old line.old.items (spaced (map word_bytes words.now)) result
+        sink.new line.new.items }
 {
     for word in words {
         if !add_spaced(sink, line, word) {
@@ -155,7 +163,8 @@ pub(crate) fn begin_line<S: Sink>(
     first: &[u8],
     others: &[Word<'_>],
 ) -> bool
-    ensures { IsAdded S.writes sink.old line.old.items (first.now ++ spaced (map word_bytes others.now)) result sink.new line.new.items }
+    ensures { IsAdded S.writes sink.old line.old.items
+        (first.now ++ spaced (map word_bytes others.now)) result sink.new line.new.items }
 {
     if !add(sink, line, first) {
         return false;
@@ -166,7 +175,8 @@ pub(crate) fn begin_line<S: Sink>(
 /// Writes a line of words, separated by single spaces, and answers whether it was written whole. Where it wasn't, a beginning of it
 /// was. It takes no memory.
 pub fn write_line<S: Sink>(sink: &mut S, first: &[u8], others: &[Word<'_>]) -> bool
-    ensures { IsLinePut S.writes sink.old (line_of (first.now ∷ map word_bytes others.now)) result sink.new }
+    ensures { IsLinePut S.writes sink.old (line_of (first.now ∷ map word_bytes others.now)) result
+        sink.new }
 {
     let mut line = ArrayVec::new();
     if !begin_line(sink, &mut line, first, others) {

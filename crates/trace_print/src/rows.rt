@@ -19,7 +19,9 @@ fn add_each<S: Sink>(
     m: Option<&MachineSymbols>,
     actions: &[u16],
 ) -> bool
-    ensures { IsAdded S.writes sink.old line.old.items (spaced (map (action_word (option_copied m.entry)) actions.now)) result sink.new line.new.items }
+    ensures { IsAdded S.writes sink.old line.old.items
+        (spaced (map (action_word (option_copied m.entry)) actions.now)) result sink.new
+        line.new.items }
 {
     for action in actions {
         if !add_spaced(sink, line, &Word::Bytes(action_word(m, *action))) {
@@ -35,7 +37,8 @@ fn add_actions<S: Sink>(
     m: Option<&MachineSymbols>,
     actions: &[u16],
 ) -> bool
-    ensures { IsAdded S.writes sink.old line.old.items (spaced (action_words (option_copied m.entry) actions.now)) result sink.new line.new.items }
+    ensures { IsAdded S.writes sink.old line.old.items
+        (spaced (action_words (option_copied m.entry) actions.now)) result sink.new line.new.items }
 {
     if actions.is_empty() {
         return add_spaced(sink, line, &Word::Bytes(b"-"));
@@ -58,7 +61,8 @@ fn write_row<S: Sink>(
     m: Option<&MachineSymbols>,
     row: &Row,
 ) -> bool
-    ensures { IsLinePut S.writes sink.old (row_line symbols.now (option_copied m.entry) row.now) result sink.new }
+    ensures { IsLinePut S.writes sink.old (row_line symbols.now (option_copied m.entry) row.now)
+        result sink.new }
 {
     let mut line = ArrayVec::new();
     let state = Word::Bytes(state_word(symbols, m, row.state));
@@ -79,7 +83,8 @@ fn write_each<S: Sink>(
     m: Option<&MachineSymbols>,
     rows: &[Row],
 ) -> bool
-    ensures { AreLinesPut S.writes sink.old (map (row_line symbols.now (option_copied m.entry)) rows.now) result sink.new }
+    ensures { AreLinesPut S.writes sink.old (map (row_line symbols.now (option_copied m.entry))
+        rows.now) result sink.new }
 {
     for row in rows {
         if !write_row(sink, symbols, m, row) {
@@ -93,8 +98,11 @@ fn write_each<S: Sink>(
 /// answers whether all were written whole. It writes nothing after one that wasn't, of which a beginning is written. The machine is
 /// given by its number.
 pub fn write_rows<S: Sink>(sink: &mut S, plan: &Plan, machine: usize, rows: &Seq<Row>) -> bool
-    ensures pieces { AreLinesPut S.writes sink.old (row_lines (symbols_of plan.now) machine rows.now) result sink.new }
-    ensures written { IsWritten (S.written sink.old) (S.faults sink.old) (text_of (row_lines (symbols_of plan.now) machine rows.now)) result (S.written sink.new) (S.faults sink.new) }
+    ensures pieces { AreLinesPut S.writes sink.old
+        (row_lines (symbols_of plan.now) machine rows.now) result sink.new }
+    ensures written { IsWritten (S.written sink.old) (S.faults sink.old)
+        (text_of (row_lines (symbols_of plan.now) machine rows.now)) result (S.written sink.new)
+        (S.faults sink.new) }
 {
     let symbols = plan.symbols();
     write_each(sink, symbols, symbols.machines.get(machine), rows)

@@ -40,8 +40,8 @@ fn member(text: &str) -> Value {
     )
 }
 
-// The value of a word `KIND:NUMBERS`, in which what is no number counts as 0. A block has 64 equal bytes.
-fn value(alloc: Global, word: &str) -> Result<Value, NoMemory> {
+/// The value of a word `KIND:NUMBERS`, in which what is no number counts as 0. A block has 64 equal bytes.
+pub(crate) fn value(alloc: Global, word: &str) -> Result<Value, NoMemory> {
     let (kind, text) = word.split_once(':').unwrap_or((word, ""));
     Ok(match kind {
         "Bool" => Value::Bool(text == "true"),

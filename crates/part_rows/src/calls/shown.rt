@@ -30,7 +30,8 @@ fn add_block(rows: &mut RowText, block: &Block) {
     }
 }
 
-fn add_reference(rows: &mut RowText, word: &str, r: &Option<Ref>) {
+/// Adds a word, and the numbers of a line that a reference names, if it names one.
+pub(crate) fn add_reference(rows: &mut RowText, word: &str, r: &Option<Ref>) {
     rows.add(word);
     match r {
         Some(r) => {
@@ -41,7 +42,8 @@ fn add_reference(rows: &mut RowText, word: &str, r: &Option<Ref>) {
     }
 }
 
-fn add_value(rows: &mut RowText, value: &Value) {
+/// Adds a value.
+pub(crate) fn add_value(rows: &mut RowText, value: &Value) {
     match value {
         Value::Bool(b) => rows.show("Bool ", b),
         Value::Int(n) => rows.show("Int ", n),

@@ -21,8 +21,8 @@ const CALLS: &str = "acts/rows";
 
 const CALLS_LIMIT: u64 = 1_048_576;
 
-// The cycle of the calls.
-const NOW: u64 = 10;
+/// The cycle of the calls.
+pub(crate) const NOW: u64 = 10;
 
 // Makes a call with these arguments in a local, and adds its line.
 fn add_call<L: Local>(rows: &mut RowText, local: &mut L, call: &Call<'_>, arguments: &[Value]) {
@@ -84,8 +84,8 @@ fn add_groups(rows: &mut RowText, node: &Store, routes: &Routes, calls: &str)
     }
 }
 
-// Whether a message of the driver, which has the address of line 1, could come to the controller, and the requests.
-fn is_begun(alloc: Global, node: &mut Store, routes: &Routes) -> bool
+/// Whether a message of the driver, which has the address of line 1, could come to the controller, and the requests.
+pub(crate) fn is_begun(alloc: Global, node: &mut Store, routes: &Routes) -> bool
     requires { GoesOn node.old routes.now NOW }
     ensures { GoesOn node.new routes.now NOW }
 {
@@ -110,8 +110,8 @@ fn add_on(rows: &mut RowText, node: &mut Store, routes: &Routes, calls: &str)
     add_groups(rows, node, routes, calls);
 }
 
-// The store of the controller as a run begins.
-fn node_of(alloc: Global, routes: &Routes) -> Result<Option<Store>, NoMemory>
+/// The store of the controller as a run begins.
+pub(crate) fn node_of(alloc: Global, routes: &Routes) -> Result<Option<Store>, NoMemory>
     ensures { IfOk result (λ o. IfSome o (λ s. GoesOn s routes.now NOW)) }
 {
     let machine = machine(alloc)?;
