@@ -9,6 +9,7 @@ use Rattle.ruby_value.specs.declared.setup.BufferPlace.{BufferPlace}
 use Rattle.ruby_value.specs.declared.setup.BufferPlace.TheVariants.{Local, To, From}
 use Rattle.ruby_symbols.specs.declared.machine.ActionSymbol.{ActionSymbol}
 use Rattle.ruby_symbols.specs.declared.machine.MachineSymbols.{MachineSymbols}
+use Rattle.ruby_symbols.specs.declared.machine.TransitionSymbol.{TransitionSymbol}
 use Rattle.slicc_ast.specs.declared.tree.item.Tree.{Tree}
 use Rattle.slicc_plan.specs.Prelude.{symbols_of}
 use Rattle.action_code.specs.declared.program.Program.{Program}
@@ -31,7 +32,7 @@ abbrev pub total_of : List Reading → ℕ
 total_of [] = 0
 total_of (s ∷ ss) = root_count s.machine + total_of ss
 
-abbrev pub first_or_none : ℕ → List _ → ℕ
+abbrev pub first_or_none : ℕ → List TransitionSymbol → ℕ
 first_or_none first [] = 0
 first_or_none first (row ∷ rows) = first
 

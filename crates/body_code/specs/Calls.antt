@@ -8,17 +8,20 @@ use Rattle.ruby_value.specs.declared.kind.Kind.{Kind}
 use Rattle.ruby_value.specs.declared.kind.Kind.TheVariants as kind
 use Rattle.ruby_symbols.specs.declared.machine.FormalSymbol.{FormalSymbol}
 use Rattle.ruby_symbols.specs.declared.machine.FunctionSymbol.{FunctionSymbol}
+use Rattle.ruby_symbols.specs.declared.machine.MachineSymbols.{MachineSymbols}
+use Rattle.ruby_symbols.specs.declared.machine.TableSymbol.{TableSymbol}
 use Rattle.ruby_symbols.specs.Prelude.{function_named}
 use Rattle.action_code.specs.declared.instr.Instr.TheVariants as instr
+use Rattle.action_code.specs.declared.operations.Answer.{Answer}
+use Rattle.action_code.specs.declared.operations.Answer.TheVariants as answer
 use Rattle.action_code.specs.declared.operations.Operation.{Operation}
-use Rattle.action_code.specs.Prelude.{answered, bare, operations}
+use Rattle.action_code.specs.Prelude.{bare, operations}
 use Rattle.body_meaning.specs.declared.thing.Numbered.{Numbered}
 use Rattle.body_meaning.specs.Prelude.{Reading, block_call, entry_call, index_call, is_permission_call, numbered, on_table, plain_call, port_call, sequencer_call, set_call}
-use Rattle.ruby_symbols.specs.declared.machine.TableSymbol.{TableSymbol}
 use Rattle.body_code.specs.declared.left.Left.{Left}
 use Rattle.body_code.specs.declared.left.Left.TheVariants as left
 use Rattle.body_code.specs.declared.numbers.BodyNumbers.{BodyNumbers}
-use Rattle.body_code.specs.Kinds.{kind_in, machine_declared}
+use Rattle.body_code.specs.Kinds.{kind_in, lines_kind}
 use Rattle.body_code.specs.Pieces.{Piece, after, or_none}
 use Rattle.body_code.specs.Segments.{Segment, just}
 
@@ -28,10 +31,18 @@ left_of (Some k) = left.Value k
 
 -- Operations.
 
+abbrev pub lines_left : MachineSymbols → Option TableSymbol → Left
+lines_left m None = left.Nothing
+lines_left m (Some t) = left.Value (lines_kind m t)
+
+abbrev pub answer_left : MachineSymbols → ℕ → Answer → Left
+answer_left m on answer.Nothing = left.Nothing
+answer_left m on (answer.Value k) = left.Value (bare k)
+answer_left m on answer.Line = lines_left m (slice_get m.tables on)
+
 abbrev pub operation_left : Reading → ℕ → Option Operation → Left
 operation_left s on None = left.Nothing
-operation_left s on (Some o) =
-    left_of (option_map bare (answered (Some (machine_declared s.symbols s.number s.machine)) on o.answer))
+operation_left s on (Some o) = answer_left s.machine on o.answer
 
 -- the operation of the first number on the table or buffer of the second
 abbrev pub operated : Reading → (number on : ℕ) → Piece

@@ -2,7 +2,8 @@
 -- buffers. And the kinds of values as code has them. An enumeration's default member isn't told. Of references to lines of a structure
 -- that is the TBE type and another, the kind is that of the tables that there are: an entry's where no TBE table has it but another table
 -- does. Where the machine lacks a type, 65,535 is in the place of its structure's number.
-use Rattle.std.specs.Prelude.{ℕ, ◌+◌, ◌||◌, not, Option, None, Some, List, [], ◌∷◌, ◌++◌, is_none, length, map, option_and_then, unwrap_or, if◌then◌else◌}
+use Rattle.std.specs.Prelude.{ℕ, ◌+◌, ◌==◌, ◌&&◌, ◌||◌, Bool, true, false, not, Option, None, Some, List, [], ◌∷◌, ◌++◌, is_none, length, map, option_and_then, unwrap_or, if◌then◌else◌}
+use Rattle.std.specs.List.{list_any}
 use Rattle.std.specs.Option.{option_map}
 use Rattle.ruby_value.specs.declared.kind.Kind.{Kind}
 use Rattle.ruby_value.specs.declared.kind.Kind.TheVariants as kind
@@ -25,7 +26,7 @@ use Rattle.action_code.specs.declared.program.Place.TheVariants as place
 use Rattle.action_code.specs.declared.program.TableDecl.{TableDecl}
 use Rattle.action_code.specs.declared.program.TableSort.TheVariants as sort
 use Rattle.action_code.specs.declared.program.TableSort as code
-use Rattle.action_code.specs.Prelude.{bare, is_of, no_structure}
+use Rattle.action_code.specs.Prelude.{bare, no_structure}
 use Rattle.body_meaning.specs.Prelude.{Reading}
 
 -- Declarations.
@@ -63,18 +64,30 @@ machine_declared symbols number m =
       buffers = map buffer_declared m.buffers;
     }
 
-abbrev pub tables_in : Reading → List TableDecl
-tables_in s = tables_declared s.symbols s.number s.machine
-
 -- Kinds.
 
-abbrev pub code_kind : List TableDecl → Kind → Kind
-code_kind tables (kind.Tbe n) =
-    if is_of tables sort.Tbe n || not (is_of tables sort.Cache n || is_of tables sort.Directory n) then kind.Tbe n else kind.Entry n
-code_kind tables k = bare k
+abbrev pub is_tbes : TableSort → Bool
+is_tbes (table_sort.Tbe entries) = true
+is_tbes _ = false
+
+-- a TBE table has lines of this structure, and any table has
+abbrev pub has_tbes : MachineSymbols → ℕ → Bool
+has_tbes m n = list_any (λ (t : TableSymbol). is_tbes t.sort && t.structure == n) m.tables
+
+abbrev pub has_lines : MachineSymbols → ℕ → Bool
+has_lines m n = list_any (λ (t : TableSymbol). t.structure == n) m.tables
+
+abbrev pub code_kind : MachineSymbols → Kind → Kind
+code_kind m (kind.Tbe n) = if has_tbes m n || not (has_lines m n) then kind.Tbe n else kind.Entry n
+code_kind m k = bare k
 
 abbrev pub kind_in : Reading → Kind → Kind
-kind_in s k = code_kind (tables_in s) k
+kind_in s k = code_kind s.machine k
+
+-- of references to the lines of a table
+abbrev pub lines_kind : MachineSymbols → TableSymbol → Kind
+lines_kind m t =
+    if is_tbes t.sort || not (t.structure == no_structure) && has_tbes m t.structure then kind.Tbe t.structure else kind.Entry t.structure
 
 -- of references to lines of a structure, and another kind where the machine has no such structure
 abbrev pub reference_kind : Reading → Option ℕ → (otherwise : Kind) → Kind
