@@ -177,7 +177,8 @@ fn plain_or(
 
 // The kinds of formals.
 fn kinds_of(alloc: Global, s: Scope<'_>, formals: &[FormalSymbol]) -> Result<Seq<Kind>, NoMemory>
-    ensures { IfOk result (λ kinds. kinds ≡ map (λ (f : FormalSymbol). kind_in (reading s.entry) f.kind) formals.now) }
+    ensures { IfOk result
+        (λ kinds. kinds ≡ map (λ (f : FormalSymbol). kind_in (reading s.entry) f.kind) formals.now) }
 {
     let mut kinds = Vec::with_capacity(alloc, formals.len())?;
     for formal in formals {
@@ -237,8 +238,10 @@ pub fn value_call(alloc: Global, k: Kind, name: &[u8]) -> Option<u16>
 // What was left, as far as calls on it ask for it.
 fn thing_left(alloc: Global, s: Scope<'_>, left: Left) -> Thing
     ensures called { (text : List ℕ) (count : ℕ)
-        → thing_called (reading s.entry).machine result text count ≡ called_on (reading s.entry) left text count }
-    ensures indexed { thing_indexed (reading s.entry).machine result ≡ indexed_on (reading s.entry) left }
+        → thing_called (reading s.entry).machine result text count
+        ≡ called_on (reading s.entry) left text count }
+    ensures indexed { thing_indexed (reading s.entry).machine result
+        ≡ indexed_on (reading s.entry) left }
 {
     match left {
         Left::Value(k) => Thing::Value(sample(alloc, k)),
@@ -267,8 +270,9 @@ pub fn method_call(
     name: &[u8],
     count: usize,
 ) -> Result<Left, NoMemory>
-    ensures { Writes (numbered_call (reading s.entry) (called_on (reading s.entry) receiver name.now count)) result
-        code.old code.new }
+    ensures { Writes
+        (numbered_call (reading s.entry) (called_on (reading s.entry) receiver name.now count))
+        result code.old code.new }
 {
     let thing = thing_left(alloc, s, receiver);
     numbered_call(code, s, called_on(s.machine, &thing, name, count))

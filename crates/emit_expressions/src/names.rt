@@ -128,7 +128,8 @@ pub fn member_pushed(
     owner: &[u8],
     member: &[u8],
 ) -> Result<Left, NoMemory>
-    ensures { Writes (member_pushed (reading s.entry) owner.now member.now) result code.old code.new }
+    ensures { Writes (member_pushed (reading s.entry) owner.now member.now) result code.old
+        code.new }
 {
     match member_value(s, owner, member) {
         Some(Value::Enum(number, k)) => {
