@@ -1,0 +1,4 @@
+pub mod Heads
+pub mod Carries
+pub mod Serves
+pub mod Prelude

@@ -1,0 +1,53 @@
+-- When parts are sound: the bodies that they name are there, each of its machine and with the arguments and the result that it is run by.
+-- And when they serve a protocol: they are sound, their program carries what the protocol means, their tables answer its written
+-- transitions, their flow tells what transitions need and send, and they name the bodies and the rest as the protocol has them.
+use Rattle.std.specs.Prelude.{ℕ, ◌≡◌, ◌+◌, true, All, IfSome, Option, None, Some, List, [], ◌∷◌, slice_get}
+use Rattle.slicc_ast.specs.declared.tree.item.Tree.{Tree}
+use Rattle.ruby_value.specs.declared.kind.Kind.{Kind}
+use Rattle.ruby_value.specs.declared.kind.Kind.TheVariants as kind
+use Rattle.ruby_value.specs.Prelude.{is_reference}
+use Rattle.slicc_plan.specs.declared.row.Row.{Row}
+use Rattle.slicc_plan.specs.Prelude.{needs}
+use Rattle.machine_table.specs.Prelude.{AreTablesOf, answer}
+use Rattle.slicc_flow.specs.Checks.{count_in}
+use Rattle.slicc_flow.specs.Sends.{sends, sends_in}
+use Rattle.action_code.specs.declared.program.MachineDecl.{MachineDecl}
+use Rattle.action_code.specs.declared.program.Program.{Program}
+use Rattle.action_gen.specs.declared.parts.Head.{Head}
+use Rattle.action_gen.specs.declared.parts.Parts.{Parts}
+use Rattle.action_gen.specs.Carries.{Carries, IsBody}
+use Rattle.action_gen.specs.Heads.{heads_of}
+
+module _ (parts : Parts) (machine : ℕ) where
+  abbrev pub p : Program
+  p = parts.program
+
+  -- the bodies of a machine whose declaration is this
+  pub record SoundHead (m : MachineDecl) (h : Head) : Type 0 where
+    -- the kinds of references to entries and to TBEs
+    pub entry : Kind
+    pub tbe : Kind
+    pub entry_is : is_reference entry ≡ true
+    pub tbe_is : is_reference tbe ≡ true
+    pub ports : All (IsBody p machine [] None) h.ports
+    pub reads : IfSome h.reads (IsBody p machine (kind.Addr ∷ entry ∷ tbe ∷ []) (Some (kind.Enum m.states 0)))
+    pub asks : IfSome h.asks (IsBody p machine (kind.Addr ∷ []) (Some (kind.Enum m.states 0)))
+    pub rows : (state event : ℕ) (row : Row) → answer parts.tables machine state event ≡ Some row
+        → IsBody p machine (kind.Addr ∷ entry ∷ tbe ∷ kind.Enum m.states 0 ∷ []) None (h.first + row.transition)
+
+  -- A machine that has a head is declared; of one that has none nothing is answered.
+  abbrev pub SoundAt : Option MachineDecl → Option Head → Type 0
+  SoundAt (Some m) (Some h) = SoundHead m h
+  SoundAt None (Some h) = ⊥
+  SoundAt m None = (state event : ℕ) → answer parts.tables machine state event ≡ None
+
+abbrev pub Sound : Parts → Type 0
+Sound parts = (machine : ℕ) → SoundAt parts machine (slice_get parts.program.machines machine) (slice_get parts.heads machine)
+
+pub record Serves (parts : Parts) (trees : List Tree) : Type 0 where
+  pub sound : Sound parts
+  pub carries : Carries parts.program trees
+  pub tables : AreTablesOf trees (answer parts.tables)
+  pub needs_are : (machine transition table : ℕ) → count_in parts.flow.0 machine transition table ≡ needs trees machine transition table
+  pub sends_are : (machine transition buffer : ℕ) → sends_in parts.flow.1 machine transition buffer ≡ sends trees machine transition buffer
+  pub heads : parts.heads ≡ heads_of parts.program trees

@@ -1,0 +1,15 @@
+pub mod Segments
+pub mod Kinds
+pub mod Pieces
+pub mod Names
+pub mod Fields
+pub mod Calls
+pub mod Expressions
+pub mod Locals
+pub mod Lines
+pub mod Spots
+pub mod Statements
+pub mod Bodies
+pub mod Order
+pub mod Programs
+pub mod Prelude
