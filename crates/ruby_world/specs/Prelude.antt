@@ -8,4 +8,4 @@ pub use Rattle.ruby_world.specs.Opening.{AreOpened, IsOpened, IsOpenedFor}
 pub use Rattle.ruby_world.specs.Accounted.{AreCountsOf, FitsWith, IsFew, IsNoMore, mail_by, mail_in}
 pub use Rattle.ruby_world.specs.Adds.{AddsAlone, HasAddedAlone}
 pub use Rattle.ruby_world.specs.Waking.{AreWorlds, Finishes, IsBetween, IsNext, IsOnlyHeld, Stays, cycles_left, holders, is_unfinished, unfinished}
-pub use Rattle.ruby_world.specs.Scanned.{begun}
+pub use Rattle.ruby_world.specs.Scanned.{IsScanned, begun}

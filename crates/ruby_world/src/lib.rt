@@ -18,5 +18,6 @@ pub use alone::run_alone;
 pub use laws::{held_controllers_stay, runs_from_the_opening_are_alone};
 pub use protocol_meaning::RunRecord;
 pub use recording::into_record;
+pub use scanning::{Scanned, scan};
 pub use whole::run_whole;
 pub use world::{Held, RunLimits, World};

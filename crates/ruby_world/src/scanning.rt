@@ -16,10 +16,11 @@ use std::alloc::Global;
 
 /// What a scan of a controller has come to.
 #[derive(Drop)]
-pub(crate) enum Scanned {
+pub enum Scanned {
     /// A transition has fired.
     Fired(Outcome),
-    /// The wake-up ends so, where the scan has stalled a transition or not.
+    /// The wake-up ends so, where the scan has stalled a transition or not. It is `rest` that what is held keeps this by, before it goes
+    /// back by `finish`.
     Ended { end: End, stalled: bool },
 }
 
@@ -87,8 +88,8 @@ fn put_scratch(held: &mut Held, scratch: Option<Scratch>)
 }
 
 /// A scan of a controller that the worker holds. It keeps what it changes in the lists that the store's last scan has left, and
-/// what is held stays as it is but for these.
-pub(crate) fn scan<P: Protocol, D: Driver>(
+/// what is held stays as it is but for these. What it has come to is for `fire` and for `finish`.
+pub fn scan<P: Protocol, D: Driver>(
     alloc: Global,
     protocol: &P,
     world: &World<D>,

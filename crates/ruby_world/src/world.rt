@@ -24,7 +24,7 @@ use std::marker::Model;
 use world_state::{Kept, SeatAt, State, any_held, first_free, is_free_at};
 
 /// All controllers of a protocol over a topology, with a driver, as a run has led them here. A contract sees what the run began with, and
-/// its history and journal: these lead to one world, which always is one of a run. One controller at most is held at a time.
+/// its history and journal: these lead to one world, which always is one of a run. Any number of controllers may be held, each by a worker.
 pub struct World<D: Driver> {
     pub(crate) plan: Plan,
     pub(crate) topology: Topology,
