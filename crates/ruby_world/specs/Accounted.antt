@@ -20,7 +20,7 @@ pub record AreCountsOf (mail : List Mailed) (c : Counts) : Type 0 where
   pub stalled : c.stalled ≡ count_by is_stalled mail
   pub recycled : c.recycled ≡ count_by is_recycled mail
 
--- the counts of these messages, each below the greatest number of 64 bits, which a count beyond 64 bits is told as
+-- each count of these messages is below 2^64 - 1, where a count of 64 bits stops
 pub record IsFew (mail : List Mailed) : Type 0 where
   pub few_queued : count_by is_queued mail < 2 ^ 64 - 1
   pub few_stalled : count_by is_stalled mail < 2 ^ 64 - 1

@@ -1,6 +1,6 @@
 -- What always holds of a world's data: its topology fits its protocol, its bound on cycles is within that of all runs, its driver has the
--- seats that it needs, and its history leads to a world of which these are the data. So the data keep a world: each controller is there
--- as its store has it, or as the worker has it who holds it, when all that waits for it has come to it, and that may come to it. For a
+-- seats that it needs, and its history leads to a world of which these are the data. So the data keep a world: a controller
+-- there is the one in the store, or the one that the worker has, after all that waits for it has arrived; and it may arrive. For a
 -- controller that is held waits what was sent to it since it was taken. There is room for each held controller's way back.
 use Rattle.std.specs.Prelude.{◌≡◌, ◌≤◌, ℕ, Option, None, Some, IsSome, List, [], count_by, is_none, length, slice_get}
 use Rattle.std.specs.declared.alloc.Global.{Global}

@@ -54,7 +54,7 @@ module _ {D : Type 0} (drive : D → List Seat → ℕ → Drive D) (v : WorldVi
     pub fired : h.fired ≡ (ctl_in h).fired
     pub mark : HasRoomForMark h.store
 
-  -- the scan of the controller that is held has fired, as this outcome has it, which was sealed of its store as it is
+  -- the scan of the controller that is held has fired, as this outcome has it, which was sealed from its store as it is
   pub record IsScanFired (h : Held) (o : Outcome) : Type 0 where
     pub scanned :
         ((rules_in drive v).scan h.controller (ctl_in h) h.cycle).outcome

@@ -1,4 +1,4 @@
--- What a scan of a controller that is held has come to.
+-- What a scan of a controller that is held ended with.
 use Rattle.std.specs.Prelude.{ℕ, List}
 use Rattle.ctl_face.specs.Prelude.{LocalView, scan_view}
 use Rattle.ctl_store.specs.Prelude.{machine_of, me_of}

@@ -60,13 +60,17 @@ opened trees t limits driver = record {
   journal = [];
 }
 
--- one event more has happened in the same run
-pub record HasAdded {D : Type 0} (old : WorldView D) (e : Event) (new : WorldView D) : Type 0 where
+-- these events more have happened in the same run
+pub record HasAddedAll {D : Type 0} (old : WorldView D) (rest : List Event) (new : WorldView D) : Type 0 where
   pub trees : new.trees ≡ old.trees
   pub topology : new.topology ≡ old.topology
   pub limits : new.limits ≡ old.limits
   pub opening : new.opening ≡ old.opening
-  pub history : new.history ≡ old.history ++ e ∷ []
+  pub history : new.history ≡ old.history ++ rest
+
+-- one event more has happened in the same run
+abbrev pub HasAdded : {D : Type 0} → WorldView D → Event → WorldView D → Type 0
+HasAdded old e new = HasAddedAll old (e ∷ []) new
 
 module _ {D : Type 0} (drive : D → List Seat → ℕ → Drive D) (v : WorldView D) where
   abbrev pub rules_in : Rules Ctl Parcel D

@@ -1,4 +1,4 @@
-//! Where the messages of a run have gone, and what else is read off a world, and taken from it, as its run has ended.
+//! Where the messages of a run have gone, and what else is read off a world.
 ghost use Rattle.std.specs.Prelude.{◌≡◌, ◌++◌, ℕ, List, Some, length};
 ghost use Rattle.protocol_runs.specs.Prelude.{account, Mailed, Meaning, rules, Setting, HasEnded};
 ghost use Rattle.ctl_face.specs.Prelude.{Ctl};

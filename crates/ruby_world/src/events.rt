@@ -1,12 +1,15 @@
 //! What happens in a world. Each of these events is a step of its run: the history with it leads to a world, too, whichever controllers
 //! are held meanwhile. What is sent to a controller waits beside its place, and comes into its store when it is taken, or at the turn.
-ghost use Rattle.std.specs.Prelude.{◌≡◌, ◌≤◌, ◌<◌, ◌+◌, ◌^◌, ℕ, IfErr, IfOk, None, OnErr, OnOk, false, length};
+ghost use Rattle.std.specs.Prelude.{◌≡◌, ◌≤◌, ◌<◌, ◌+◌, ◌^◌, ◌++◌, ◌∷◌, [], ℕ, IfErr, IfOk, None, OnErr, OnOk, false, length};
 ghost use Rattle.std.specs.List.{All};
+ghost use Rattle.run_journal.specs.declared.entry.Entry.TheVariants as entry;
 ghost use Rattle.run_journal.specs.declared.event.Event.TheVariants as event;
 ghost use Rattle.run_journal.specs.Prelude.{HasRoomFor, KeepsRoom, numbers_in};
-ghost use Rattle.ctl_store.specs.Prelude.{ctl_of, HasRoomForMark, HasRoomForOutcome, IsSameStore, outcome_acts};
+ghost use Rattle.ctl_face.specs.Prelude.{with_one_fired};
+ghost use Rattle.ctl_store.specs.Prelude.{ctl_of, HasRoomForMark, HasRoomForOutcome, IsSameStore, note_of, outcome_acts, outcome_ctl};
+ghost use Rattle.protocol_runs.specs.Prelude.{acts_told, fired_entry};
 ghost use Rattle.world_state.specs.Prelude.{HasRoomToPost, waiting_at};
-ghost use Rattle.ruby_world.specs.Held.{Holds, IsSameHeld, IsScanEnded, IsScanFired};
+ghost use Rattle.ruby_world.specs.Held.{Holds, IsSameHeld, IsScanEnded, IsScanFired, ctl_in};
 ghost use Rattle.ruby_world.specs.Worlds.{CanTake, CanTurn, HasAdded, InWorld, IsNobodyHeld};
 
 use crate::opening::machine_of;
@@ -40,7 +43,7 @@ fn lists_of(o: &Outcome) -> FireLists<'_>
     }
 }
 
-// Makes room for what a transition changes, writes and sends, and for the ways back of so many controllers, or answers that there is
+// Makes room for what a transition changes, writes and sends, and for the ways back of this many controllers, or answers that there is
 // no memory for it.
 fn room_to_fire(
     book: &mut Book,
@@ -83,6 +86,7 @@ fn room_to_fire(
 impl<D: Driver> World<D> {
     /// A worker takes a controller that is due and that nobody holds, while no verdict stands. What waits for it comes into its store
     /// first. It makes room for the controller's way back: for one release, and for the end of its wake-up with its entry and its mark.
+    /// Without memory nothing has changed.
     pub fn take(&mut self, worker: u32, c: u32) -> Result<Held, NoMemory>
         requires { InWorld D.drive self.old (CanTake D.drive self.old c) }
         ensures added { OnOk result (HasAdded self.old (event.Take worker c) self.new) }
@@ -116,8 +120,9 @@ impl<D: Driver> World<D> {
         })
     }
 
-    /// A scan of a controller that the worker holds has fired: its outcome, which was sealed of the store as it is, is applied there, and
-    /// what it sent waits for its receivers. The place of its entry in the journal is answered. Without memory the outcome comes back.
+    /// A scan of a controller that the worker holds has fired: its outcome, which was sealed from the store as it is, is applied there, and
+    /// what it sent waits for its receivers. The place of its entry in the journal is answered. Without memory the outcome comes back,
+    /// and nothing has changed.
     pub fn fire(
         &mut self,
         worker: u32,
@@ -130,6 +135,9 @@ impl<D: Driver> World<D> {
         ensures place { IfOk result (λ n. n ≡ length self.old.journal) }
         ensures holds { Holds D.drive self.new worker held.new }
         ensures controller { held.new.controller ≡ held.old.controller }
+        ensures journal { OnOk result (self.new.journal ≡ self.old.journal
+            ++ fired_entry held.old.cycle held.old.controller (note_of o) (acts_told (outcome_acts o)) ∷ []) }
+        ensures ctl { OnOk result (ctl_in held.new ≡ with_one_fired (outcome_ctl o (ctl_in held.old))) }
         ensures one_more { OnOk result (held.new.fired ≡ held.old.fired + 1) }
         ensures few { OnOk result (held.new.fired ≤ held.new.limit) }
         ensures stalled { held.new.stalled ≡ held.old.stalled }
@@ -169,6 +177,7 @@ impl<D: Driver> World<D> {
         requires ended { IsScanEnded D.drive self.old held end }
         ensures added { HasAdded self.old (event.Done worker held.controller) self.new }
         ensures place { result ≡ length self.old.journal }
+        ensures journal { self.new.journal ≡ self.old.journal ++ entry.Ended held.cycle held.controller end ∷ [] }
         ensures goes_on { InWorld D.drive self.new (λ w. w.verdict ≡ None) }
     {
         meanings_are_lawful();
@@ -202,6 +211,7 @@ impl<D: Driver> World<D> {
     }
 
     /// A turn of a world in which nobody is held and no controller is due: the run ends with the verdict that is answered, or goes on.
+    /// Without memory nothing has changed.
     pub fn turn(&mut self, alloc: Global, worker: u32) -> Result<Option<Verdict>, NoMemory>
         requires { InWorld D.drive self.old (CanTurn D.drive self.old) }
         ensures added { OnOk result (HasAdded self.old (event.Turn worker) self.new) }

@@ -140,7 +140,8 @@ impl<D: Driver> World<D> {
     }
 }
 
-// The first machine among these, of which the first has this number and begins with this controller, that has a controller.
+// The machine of controller `c` among these, of which the first has the number `machine` and begins with the controller `first`; `None`
+// where it is in none.
 fn machine_from(counts: &[u32], machine: u16, first: u32, c: u32) -> Option<u16>
     requires machines { machine + length counts.now < 2 ^ 16 }
     requires controllers { first + sum counts.now < 2 ^ 32 }

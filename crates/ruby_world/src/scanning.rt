@@ -1,5 +1,5 @@
 //! A scan of a controller that is held.
-ghost use Rattle.std.specs.Prelude.{◌≡◌, IfOk, OnOk};
+ghost use Rattle.std.specs.Prelude.{◌≡◌, IfOk};
 ghost use Rattle.ctl_store.specs.Prelude.{view_of};
 ghost use Rattle.ruby_world.specs.Scanned.{IsScanned, begun};
 ghost use Rattle.ruby_world.specs.Prelude.{Holds, IsSameHeld};
@@ -14,7 +14,7 @@ use run_journal::End;
 use sequencer::Driver;
 use std::alloc::Global;
 
-/// What a scan of a controller has come to.
+/// What a scan of a controller ended with.
 #[derive(Drop)]
 pub enum Scanned {
     /// A transition has fired.
@@ -88,7 +88,7 @@ fn put_scratch(held: &mut Held, scratch: Option<Scratch>)
 }
 
 /// A scan of a controller that the worker holds. It keeps what it changes in the lists that the store's last scan has left, and
-/// what is held stays as it is but for these. What it has come to is for `fire` and for `finish`.
+/// what is held stays as it is but for these, also where there is no memory. What it ended with is for `fire` and for `finish`.
 pub fn scan<P: Protocol, D: Driver>(
     alloc: Global,
     protocol: &P,
@@ -98,8 +98,8 @@ pub fn scan<P: Protocol, D: Driver>(
 ) -> Result<Scanned, NoMemory>
     requires serves { P.serves protocol.now world.now.trees }
     requires holds { Holds D.drive world.now worker held.old }
-    ensures same { OnOk result (IsSameHeld held.old held.new) }
-    ensures holds { OnOk result (Holds D.drive world.now worker held.new) }
+    ensures same { IsSameHeld held.old held.new }
+    ensures holds { Holds D.drive world.now worker held.new }
     ensures scanned { IfOk result (IsScanned D.drive world.now held.new) }
 {
     let scratch = take_scratch(alloc, held)?;

@@ -65,7 +65,7 @@ impl<D: Driver> Drop for World<D> {
 }
 
 impl<D: Driver> World<D> {
-    /// The history of a world leads to a world of its run, whose topology, bounds and driver are as `new` was given them. It does
+    /// The history of a world leads to a world of its run, and its topology, bounds and driver meet what `new` requires of them. It does
     /// nothing.
     pub fn law(&self)
         ensures run { (w : WorldRecord Ctl D) × IsWorldOf D.drive self.now w }

@@ -1,6 +1,7 @@
--- The places of controllers as a run sees them. A controller that a worker holds isn't in its place, so it is handed in beside the
--- places, of which one at most is held at a time. Of each place is known, too, what the store there was made for: the machine, the
--- controller's number, and the routes that it goes by. That workers hold controllers is this project's own.
+-- The places of controllers as a run sees them. A controller that a worker holds isn't in its place, so one is handed in for every held
+-- place: this is meant for places of which none is held, or for what holds whichever controller is handed in. Of each place is known,
+-- too, what the store there was made for: the machine, the controller's number, and the routes that it goes by. That workers hold
+-- controllers is this project's own.
 use Rattle.std.specs.Prelude.{◌≡◌, ◌&&◌, ℕ, Bool, true, false, not, Option, None, Some, IsSomeAnd, List, [], map, slice_get, slice_set}
 use Rattle.ruby_value.specs.Prelude.{has_mark}
 use Rattle.ruby_value.specs.declared.setup.MachineSetup.{MachineSetup}

@@ -1,6 +1,6 @@
--- The world of a run, as its data are kept, while nothing waits for a controller. A controller that a worker holds isn't there, so it
--- is handed in: it is what the worker has, and where nobody is held, it doesn't matter which it is. What each store was made for is what
--- the setting says of its controller.
+-- The world of a run, as its data are kept, while nothing waits for a controller. One controller is handed in for all that are held: it is
+-- said of worlds in which nobody is held, where it doesn't matter which it is. What each store was made for is what the setting says of
+-- its controller.
 use Rattle.std.specs.Prelude.{◌≡◌, ℕ, Bool, Option, None, Some, List, slice_get}
 use Rattle.protocol_runs.specs.Prelude.{IsRun, World, setup_of, Meaning, rules, Setting}
 use Rattle.ctl_face.specs.Prelude.{Ctl}
@@ -37,10 +37,11 @@ held_place worker finished = record { keeper = keeper.Worker worker; finished = 
 abbrev pub home_place : Kept → (finished : Bool) → Place
 home_place kept finished = record { keeper = keeper.World kept; finished = finished }
 
--- nobody is held
+-- the controller of this number is held
 abbrev pub IsHeldIn : List (Option Made) → ℕ → Type 0
 IsHeldIn mades c = slice_get mades c ≡ Some None
 
+-- nobody is held
 abbrev pub IsNobody : List (Option Made) → Type 0
 IsNobody mades = (c : ℕ) → IsHeldIn mades c → ⊥
 

@@ -1,4 +1,4 @@
--- What calls do to a world's data, and that it is a step of the run. All but what is told stays.
+-- What calls do to a world's data, and that it is a step of the run. All else stays.
 use Rattle.std.specs.Prelude.{◌≡◌, ◌≤◌, ℕ, Option, Some, List, [], ◌∷◌, ◌++◌, length}
 use Rattle.std.specs.Option.{option_to_list}
 use Rattle.run_journal.specs.declared.entry.Entry.{Entry}

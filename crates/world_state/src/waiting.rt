@@ -15,7 +15,7 @@ use ctl_face::Parcel;
 use ruby_value::{Delivery, NoMemory, Seq};
 use std::alloc::Global;
 
-/// Nothing waits for any of so many controllers.
+/// Nothing waits for any of `controllers` controllers.
 pub fn no_waiting(alloc: Global, controllers: usize) -> Result<Vec<Vec<Parcel>>, NoMemory>
     ensures count { IfOk result (λ lists. length lists.items ≡ controllers) }
     ensures none { IfOk result (λ lists. All (λ v. v.items ≡ []) lists.items) }

@@ -17,3 +17,11 @@ returns-clause-holds g c =
 pub returns-clause-scanned : goal.returns-clause-scanned
 returns-clause-scanned g c =
     scanned-same g.D.Driver.drive c.args.world.now c.take_scratch.new.held c.put_scratch.new.held c.put_scratch.ensures c.in_ok-come.come.0 c.in_ok-come.ensures
+
+pub returns-in_err-scratch-clause-holds : goal.returns-in_err-scratch-clause-holds
+returns-in_err-scratch-clause-holds g c =
+    holds-same g.D.Driver.drive c.args.world.now c.args.worker c.args.held.now c.take_scratch.new.held c.take_scratch.ensures c.requires.holds
+
+pub returns-in_err-come-clause-holds : goal.returns-in_err-come-clause-holds
+returns-in_err-come-clause-holds g c =
+    holds-same g.D.Driver.drive c.args.world.now c.args.worker c.args.held.now c.take_scratch.new.held c.take_scratch.ensures c.requires.holds

@@ -133,6 +133,25 @@ invariant_of-self g c =
     next-data g.D.Driver.least g.D.Driver.drive g.D.Driver.opening w.plan w.topology w.limits w.seats.items w.waiting.items w.waiting.items w.state st facts refl _
     (finish-kept P g.D.Driver.drive setting law facts.world w.waiting.items w.state facts.kept open_run c.args.worker h.controller x here.held home after c.args.end ends st back holds.made same writes c.write_end.ensures.room c.write_end.ensures.entry_room)
 
+pub returns-clause-journal : goal.returns-clause-journal
+returns-clause-journal g c =
+    let w = c.self.inside in
+    let facts = c.self.invariant in
+    let driver = g.met.D.Driver g.world.𝓛 g.world.𝓜 g.world.𝓡 ((λ s x. x), (λ x. x), (λ x. x), λ x. x) in
+    let driving : IsDriver g.D.Driver.drive g.D.Driver.needs g.D.Driver.least = record { lawful = driver.lawful; lasting = λ d seats now. (driver.lasting d seats now).0 } in
+    let begun = g.D.Driver.opening w.state.driver in
+    let setting = setting_of w.plan w.topology w.limits.seed w.limits.cycles w.limits.limit begun in
+    let means = c.meanings_are_lawful.ensures w.plan in
+    let lawful = c.settings_are_lawful.ensures.enough w.plan w.topology w.limits.seed w.limits.cycles w.limits.limit begun facts.fits facts.cycles facts.enough in
+    let law = laws (meaning_of w.plan) g.D.Driver.drive setting g.D.Driver.needs g.D.Driver.least driving means (c.meanings_are_framed.ensures w.plan) lawful in
+    let holds = rw (← c.self.view_is) at c.requires.holds in
+    let h = c.args.held in
+    let x = ctl_in h in
+    let P = meaning_of w.plan in
+    let here = holds.holding facts.world facts.kept.run in
+    let j = c.write_end.ensures.journal ∙ ap (λ (n : ℕ). w.state.book.journal ++ entry.Ended n h.controller c.args.end ∷ []) (sym facts.kept.now ∙ sym here.cycle) in
+    rw (← c.self.view_is) j
+
 pub returns-clause-goes_on : goal.returns-clause-goes_on
 returns-clause-goes_on g c =
     let w = c.self.inside in

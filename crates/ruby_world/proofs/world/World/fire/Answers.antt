@@ -216,6 +216,53 @@ invariant_of-self-2 g c =
     next-data g.D.Driver.least g.D.Driver.drive g.D.Driver.opening w.plan w.topology w.limits w.seats.items w.waiting.items rest w.state new facts refl _
     (fire-kept P g.D.Driver.drive setting law facts.world w.waiting.items w.state facts.kept open_run c.args.worker h.controller x here.held note told copies after scanned rest new more (c.post.ensures.count ∙ e.count) refl same writes room entry_room)
 
+pub returns-clause-journal : goal.returns-clause-journal
+returns-clause-journal g c =
+    let w = c.self.inside in
+    let facts = c.self.invariant in
+    let driver = g.met.D.Driver g.world.𝓛 g.world.𝓜 g.world.𝓡 ((λ s x. x), (λ x. x), (λ x. x), λ x. x) in
+    let driving : IsDriver g.D.Driver.drive g.D.Driver.needs g.D.Driver.least = record { lawful = driver.lawful; lasting = λ d seats now. (driver.lasting d seats now).0 } in
+    let begun = g.D.Driver.opening w.state.driver in
+    let setting = setting_of w.plan w.topology w.limits.seed w.limits.cycles w.limits.limit begun in
+    let means = c.meanings_are_lawful.ensures w.plan in
+    let lawful = c.settings_are_lawful.ensures.enough w.plan w.topology w.limits.seed w.limits.cycles w.limits.limit begun facts.fits facts.cycles facts.enough in
+    let law = laws (meaning_of w.plan) g.D.Driver.drive setting g.D.Driver.needs g.D.Driver.least driving means (c.meanings_are_framed.ensures w.plan) lawful in
+    let holds = rw (← c.self.view_is) at c.requires.holds in
+    let is_fired = rw (← c.self.view_is) at c.requires.fired in
+    let h = c.args.held.now in
+    let x = ctl_in h in
+    let P = meaning_of w.plan in
+    let here = holds.holding facts.world facts.kept.run in
+    let open_run = sym facts.kept.verdict ∙ here.held.goes_on in
+    let note = note_of c.args.o in
+    let told = acts_told (outcome_acts c.args.o) in
+    let copies = (outcome_acts c.args.o).posted in
+    let after = outcome_ctl c.args.o x in
+    let scanned = subst (λ (n : ℕ). ((rules P g.D.Driver.drive setting).scan h.controller x n).outcome ≡ Fired note told copies after) here.cycle is_fired.scanned in
+    let e = c.room_to_fire.ensures in
+    let ok = c.in_default.ensures in
+    let new : State _ = record { now = w.state.now; places = w.state.places; driver = w.state.driver; issued = w.state.issued; next = w.state.next; verdict = w.state.verdict; book = c.write_fire.new.self } in
+    let rest = c.post.new.waiting.items in
+    let same : SameCycle w.state new = record { now = refl; driver = refl; issued = refl; next = refl; verdict = refl } in
+    let list = c.lists_of.ensures in
+    let F : (a b d f : List MsgNo) → List Sent → Entry = λ a b d f s. entry.Fired w.state.now h.controller note a s b d f in
+    let told_so =
+    ap (λ (n : FireNote). fired_of w.state.now h.controller n c.lists_of.result) c.note.ensures
+    ∙ ap (λ (l : List MsgNo). F l c.lists_of.result.stalled.now c.lists_of.result.woken.now c.lists_of.result.recycled.now c.lists_of.result.sent.now) list.consumed
+    ∙ ap (λ (l : List Sent). F told.consumed c.lists_of.result.stalled.now c.lists_of.result.woken.now c.lists_of.result.recycled.now l) list.sent
+    ∙ ap (λ (l : List MsgNo). F told.consumed l c.lists_of.result.woken.now c.lists_of.result.recycled.now told.sent) list.stalled
+    ∙ ap (λ (l : List MsgNo). F told.consumed told.stalled l c.lists_of.result.recycled.now told.sent) list.woken
+    ∙ ap (λ (l : List MsgNo). F told.consumed told.stalled told.woken l told.sent) list.recycled
+    ∙ ap (λ (n : ℕ). fired_entry n h.controller note told) (sym facts.kept.now) in
+    let writes : Writes w.state new (event.Fire c.args.worker h.controller) (Some (fired_entry facts.world.now h.controller note told)) = record {
+      history = c.write_fire.ensures.history ∙ ap (λ (l : List Event). l ++ event.Fire c.args.worker h.controller ∷ []) e.history;
+      journal = c.write_fire.ensures.journal ∙ ap (λ (x : Entry). c.room_to_fire.new.book.journal ++ x ∷ []) told_so ∙ ap (λ (l : List Entry). l ++ fired_entry facts.world.now h.controller note told ∷ []) e.journal;
+    } in
+    rw (← c.self.view_is) (writes.journal ∙ ap (λ (n : ℕ). w.state.book.journal ++ fired_entry n h.controller note told ∷ []) (sym here.cycle))
+
+pub returns-clause-ctl : goal.returns-clause-ctl
+returns-clause-ctl g c = c.apply-posted.ensures.after ∙ ap (λ (y : Ctl). with_one_fired (outcome_ctl c.args.o y)) c.room_to_fire.ensures.ctl
+
 pub returns-clause-holds : goal.returns-clause-holds
 returns-clause-holds g c =
     let w = c.self.inside in
