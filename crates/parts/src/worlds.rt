@@ -4,8 +4,11 @@
 ghost use Rattle.std.specs.Prelude.{◌≤◌};
 ghost use Rattle.ctl_face.specs.Prelude.{last_cycle};
 
+mod held;
 mod row;
 mod run;
+mod steps;
+mod workers;
 
 use row::{Row, row_of};
 use ruby_outside::{Got, Library, Sink, put};

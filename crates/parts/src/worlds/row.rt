@@ -4,7 +4,8 @@ ghost use Rattle.ctl_face.specs.Prelude.{last_cycle};
 
 use ruby_world::RunLimits;
 
-/// A world: the files of its protocol, its topology and its script, what bounds the run, and whether its whole journal is printed.
+/// A world: the files of its protocol, its topology and its script, what bounds the run, whether its whole journal is printed, and the
+/// file of what two workers do first, if they do anything.
 #[derive(Clone, Copy)]
 pub(crate) struct Row<'a> {
     pub(crate) name: &'a str,
@@ -13,6 +14,7 @@ pub(crate) struct Row<'a> {
     pub(crate) script: &'a str,
     pub(crate) limits: RunLimits,
     pub(crate) whole: bool,
+    pub(crate) steps: Option<&'a str>,
 }
 
 // The greatest bound on cycles.
@@ -31,6 +33,7 @@ pub(crate) fn row_of(line: &str) -> Option<Row<'_>>
     let cycles = words.next()?.parse::<u64>().ok()?;
     let limit = words.next()?.parse::<u64>().ok()?;
     let shown = words.next()?;
+    let steps = words.next();
     if cycles > LAST_CYCLE {
         return None;
     }
@@ -45,5 +48,6 @@ pub(crate) fn row_of(line: &str) -> Option<Row<'_>>
             limit,
         },
         whole: shown == "journal",
+        steps,
     })
 }

@@ -5,6 +5,8 @@ ghost use Rattle.controller_rows.specs.Prelude.{opening};
 ghost use Rattle.protocol_meaning.specs.Prelude.{FitsPlan};
 
 use crate::worlds::row::Row;
+use crate::worlds::steps::{Step, steps_of};
+use crate::worlds::workers::run_steps;
 use controller_rows::{Script, plan_of, requests_of};
 use protocol_meaning::topologies_fit;
 use ruby_base::{NoMemory, Text};
@@ -86,27 +88,26 @@ fn write_record<S: Sink>(alloc: Global, sink: &mut S, record: &RunRecord, whole:
     write_rest(sink, &rest)
 }
 
-// The run of a plan over a topology.
+// The run of a plan over a topology, which begins with these steps of two workers.
 fn run_of(
     alloc: Global,
     limits: &RunLimits,
     plan: Plan,
     topology: Topology,
     script: Script,
-) -> Result<RunRecord, NoMemory>
+    steps: &[Step],
+) -> Result<Option<RunRecord>, NoMemory>
     requires cycles { limits.now.cycles ≤ last_cycle }
     requires fits { FitsPlan plan topology }
     requires opening { opening script ≡ script }
 {
     let protocol = Interpreted::new(copy_plan(&plan)?);
-    run_whole(
-        alloc,
-        &protocol,
-        plan,
-        topology,
-        options_of(alloc, limits),
-        script,
-    )
+    let options = options_of(alloc, limits);
+    if steps.is_empty() {
+        let record = run_whole(alloc, &protocol, plan, topology, options, script)?;
+        return Ok(Some(record));
+    }
+    run_steps(alloc, &protocol, plan, topology, options, script, steps)
 }
 
 // The run of a plan over the topology that a file's bytes say, if they say one.
@@ -116,13 +117,14 @@ fn run_over(
     plan: Plan,
     bytes: &[u8],
     script: Script,
+    steps: &[Step],
 ) -> Option<RunRecord>
     requires cycles { limits.now.cycles ≤ last_cycle }
     requires length { length bytes.now ≤ 1048576 }
     requires opening { opening script ≡ script }
 {
     match topology_of(alloc, bytes, &plan) {
-        Ok(topology) => run_of(alloc, limits, plan, topology, script).ok(),
+        Ok(topology) => run_of(alloc, limits, plan, topology, script, steps).unwrap_or(None),
         Err(_) => {
             drop(plan);
             drop(script);
@@ -138,6 +140,7 @@ fn run_by<L: Library>(
     row: &Row<'_>,
     topology: &[u8],
     script: &[u8],
+    steps: &[Step],
 ) -> Option<RunRecord>
     requires cycles { row.now.limits.cycles ≤ last_cycle }
     requires length { length topology.now ≤ 1048576 }
@@ -146,7 +149,7 @@ fn run_by<L: Library>(
         return None;
     };
     match plan_of(alloc, library, row.protocol) {
-        Ok(Some(plan)) => run_over(alloc, &row.limits, plan, topology, script),
+        Ok(Some(plan)) => run_over(alloc, &row.limits, plan, topology, script, steps),
         Ok(None) | Err(NoMemory) => {
             drop(script);
             None
@@ -154,17 +157,31 @@ fn run_by<L: Library>(
     }
 }
 
+// The steps of a row, if their file can be read. Without a file there is none.
+fn steps_in<L: Library>(alloc: Global, library: &mut L, row: &Row<'_>) -> Option<Vec<Step>> {
+    let Some(file) = row.steps else {
+        return Some(Vec::new(alloc));
+    };
+    let bytes = bytes_of(library, file, SCRIPT_LIMIT)?;
+    let text = str::from_utf8(bytes.as_slice()).unwrap_or("");
+    steps_of(alloc, text).ok()
+}
+
 // The run of a row, if its files can be read and aren't refused.
 fn record_of<L: Library>(alloc: Global, library: &mut L, row: &Row<'_>) -> Option<RunRecord>
     requires { row.now.limits.cycles ≤ last_cycle }
 {
-    let Some(topology) = bytes_of(library, row.topology, FILE_LIMIT) else {
-        return None;
-    };
-    match bytes_of(library, row.script, SCRIPT_LIMIT) {
-        Some(script) => run_by(alloc, library, row, topology.as_slice(), script.as_slice()),
-        None => None,
-    }
+    let topology = bytes_of(library, row.topology, FILE_LIMIT)?;
+    let script = bytes_of(library, row.script, SCRIPT_LIMIT)?;
+    let steps = steps_in(alloc, library, row)?;
+    run_by(
+        alloc,
+        library,
+        row,
+        topology.as_slice(),
+        script.as_slice(),
+        steps.as_slice(),
+    )
 }
 
 /// Writes the run of a row, and answers whether it was written whole.

@@ -1,0 +1,10 @@
+use Rattle.std.proofs.Common.{◌==◌}
+use Rattle.run_journal.specs.declared.event.Event.TheVariants.{Release}
+use Rattle.parts.proofs.Leaving.{leaves-by, not-on}
+use Rattle.parts.proofs.worlds.held.give_back.Goals as goal
+
+pub returns : goal.returns
+returns g c =
+    leaves-by g.D.Driver.drive g.D.Driver.least c.others_stay.ensures c.args.world.now c.release.new.self (Release c.args.worker c.args.held.controller)
+    c.args.worker c.lawful.ensures c.lawful-2.ensures c.release.ensures.added
+    (λ other d apart. not-on (c.args.worker == other) (c.args.held.controller == d) apart)
