@@ -35,10 +35,11 @@ module _ (parts : Parts) (machine : ℕ) where
     pub rows : (state event : ℕ) (row : Row) → answer parts.tables machine state event ≡ Some row
         → IsBody p machine (kind.Addr ∷ entry ∷ tbe ∷ kind.Enum m.states 0 ∷ []) None (h.first + row.transition)
 
-  -- where no machine has the number, nothing is answered
-  pub data SoundAt : Option MachineDecl → Option Head → Type 0 where
-    there : {m : MachineDecl} {h : Head} → SoundHead m h → SoundAt (Some m) (Some h)
-    none : ((state event : ℕ) → answer parts.tables machine state event ≡ None) → SoundAt None None
+  -- A machine that has a head is declared; of one that has none nothing is answered.
+  abbrev pub SoundAt : Option MachineDecl → Option Head → Type 0
+  SoundAt (Some m) (Some h) = SoundHead m h
+  SoundAt None (Some h) = ⊥
+  SoundAt m None = (state event : ℕ) → answer parts.tables machine state event ≡ None
 
 abbrev pub Sound : Parts → Type 0
 Sound parts = (machine : ℕ) → SoundAt parts machine (slice_get parts.program.machines machine) (slice_get parts.heads machine)

@@ -2,7 +2,7 @@
 -- of the machine, if it has one, and else of a built-in call, as an operation; or it is one from states to permissions, for which each
 -- machine has a body for each machine of the protocol. Calls on values go by the kind of the value. What a call that changes its
 -- receiver gives is on the stack.
-use Rattle.std.specs.Prelude.{ℕ, ◌+◌, ◌==◌, Option, None, Some, List, [], ◌∷◌, map, option_and_then, position, slice_get, unwrap_or}
+use Rattle.std.specs.Prelude.{ℕ, ◌+◌, ◌==◌, cond, Option, None, Some, List, [], ◌∷◌, map, option_and_then, position, slice_get, unwrap_or}
 use Rattle.std.specs.Option.{option_map}
 use Rattle.ruby_value.specs.declared.kind.Kind.{Kind}
 use Rattle.ruby_value.specs.declared.kind.Kind.TheVariants as kind
@@ -80,10 +80,16 @@ abbrev pub permission_called : BodyNumbers → ℕ → Piece
 permission_called n machine =
     record { left = left.Value (kind.Enum 1 0); code = just (instr.Call (permission_body_number n machine) ∷ []) }
 
+-- the number of the first machine whose call from states to permissions has this name, of these, which are numbered from here on
+abbrev pub permission_machine : List ℕ → ℕ → List MachineSymbols → Option ℕ
+permission_machine text machine [] = None
+permission_machine text machine (m ∷ ms) =
+    cond (is_permission_call text m) (Some machine) (permission_machine text (machine + 1) ms)
+
 abbrev pub plain_or : Reading → BodyNumbers → List ℕ → Option ℕ → Piece
 plain_or s n text (Some number) = operated s number 0
 plain_or s n text None =
-    or_none (option_map (permission_called n) (position (is_permission_call text) s.symbols.machines))
+    or_none (option_map (permission_called n) (permission_machine text 0 s.symbols.machines))
 
 abbrev pub function_or : Reading → BodyNumbers → List ℕ → Option ℕ → Piece
 function_or s n text (Some k) = function_called s n k

@@ -2,9 +2,9 @@
 pub use Rattle.body_code.specs.Segments.{Segment, fork, guard, just, nothing, ◌⨾◌}
 pub use Rattle.body_code.specs.Kinds.{buffer_declared, code_kind, entry_kind, has_lines, has_tbes, kind_in, lines_kind, machine_declared, null, null_kind, place_of, reference_kind, sort_of, state_kind, table_declared, tables_declared, tbe_kind, values_structure}
 pub use Rattle.body_code.specs.Pieces.{Piece, after, giving, known, or_none, then}
-pub use Rattle.body_code.specs.Names.{declared_read, home_of, home_read, member_pushed, name_read, read_everywhere}
+pub use Rattle.body_code.specs.Names.{declared_read, home_of, home_read, member_pushed, name_read, port_read, read_everywhere, value_read}
 pub use Rattle.body_code.specs.Fields.{field_among, field_by, field_in, field_numbered, field_read, field_through}
-pub use Rattle.body_code.specs.Calls.{answer_left, called_on, formals_in, formals_of, function_at, function_body_number, index, left_of, method_call, named_call, numbered_call, operated, operation_left, permission_body_number, result_of, value_call}
+pub use Rattle.body_code.specs.Calls.{answer_left, called_on, formals_in, formals_of, function_at, function_body_number, function_called, index, indexed_on, left_of, method_call, named_call, numbered_call, operated, operation_left, permission_body_number, permission_called, permission_machine, plain_or, result_of, value_call}
 pub use Rattle.body_code.specs.Expressions.{all_arguments, arguments_by, compared, joined, kind_joined, kind_left, kind_written, made, operands, operation_by, piece, piece_behind, suffixed, suffixed_all, suffixed_by}
 pub use Rattle.body_code.specs.Locals.{Slot, declared, field_kinds, kept_for, scratch_for, with_kinds, with_name}
 pub use Rattle.body_code.specs.Lines.{Line, behind, closed, dropped, ends, followed_by, goes_on, in_block, with_locals, within}

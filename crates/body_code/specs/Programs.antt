@@ -1,5 +1,5 @@
--- The program of a protocol. Machine by machine come the bodies that others call: those of functions, each after those that it calls; those
--- from states to permissions; and those of transitions after their first actions. The last bodies are the roots, by which the program is
+-- The program of a protocol. Machine by machine come the bodies that others call: those from states to permissions; those of functions, each
+-- after those that it calls; and those of transitions after their first actions. The last bodies are the roots, by which the program is
 -- run: machine by machine one for each in port, one for `getState` where it is written, one for `getNextState` where a transition has
 -- `*`, and one for each written transition.
 use Rattle.std.specs.Prelude.{ℕ, ◌+◌, Bool, true, false, Option, None, Some, List, [], ◌∷◌, ◌++◌, filter_map, flat_map, length, map}
@@ -46,7 +46,7 @@ structures_declared symbols =
 
 abbrev pub numbers_at : ℕ → Reading → BodyNumbers
 numbers_at first s =
-    let order = order_of s in record { order = order; first = first; permissions = first + length order }
+    record { order = order_of s; first = first + length s.symbols.machines; permissions = first }
 
 abbrev pub function_codes : Reading → BodyNumbers → List Code
 function_codes s n = map (function_code s n) (filter_map (function_at s) n.order)
@@ -61,10 +61,10 @@ chains s n first (row ∷ rows) =
     rest_codes s n row.next first row.actions ++ chains s n (first + length row.actions) rows
 
 abbrev pub first_chain : Reading → BodyNumbers → ℕ
-first_chain s n = n.permissions + length s.symbols.machines
+first_chain s n = n.first + length n.order
 
 abbrev pub called_bodies : Reading → BodyNumbers → List Code
-called_bodies s n = function_codes s n ++ permission_codes s ++ chains s n (first_chain s n) s.machine.transitions
+called_bodies s n = permission_codes s ++ function_codes s n ++ chains s n (first_chain s n) s.machine.transitions
 
 -- Roots.
 

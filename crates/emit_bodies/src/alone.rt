@@ -174,13 +174,36 @@ fn about_triggered(
         piece(alloc, code, s, n, &own.names, None, address)?;
     }
     let has_entry = s.machine.entry.is_some();
-    reference_written(alloc, code, s, n, has_entry, entry_kind(s), given.get(2), own)?;
+    reference_written(
+        alloc,
+        code,
+        s,
+        n,
+        has_entry,
+        entry_kind(s),
+        given.get(2),
+        own,
+    )?;
     let place = if has_entry { 3 } else { 2 };
     let has_tbe = s.machine.tbe.is_some();
-    reference_written(alloc, code, s, n, has_tbe, tbe_kind(s), given.get(place), own)
+    reference_written(
+        alloc,
+        code,
+        s,
+        n,
+        has_tbe,
+        tbe_kind(s),
+        given.get(place),
+        own,
+    )
 }
 
-fn event_chosen(code: &mut Seq<Instr>, events: u16, slot: u16, count: usize) -> Result<(), NoMemory> {
+fn event_chosen(
+    code: &mut Seq<Instr>,
+    events: u16,
+    slot: u16,
+    count: usize,
+) -> Result<(), NoMemory> {
     for k in 1..count {
         let number = emit_expressions::index16(k)?;
         code.push(Instr::Load(slot))?;
@@ -309,10 +332,27 @@ fn behind_alone(
     own: &mut Own,
 ) -> Result<(), NoMemory> {
     let count = suffixes.len().saturating_sub(1);
-    if let Some(Suffix::Method { name, arguments: given, .. }) = suffixes.get(count) {
+    if let Some(
+        Suffix::Method {
+            name,
+            arguments: given,
+            ..
+        },
+    ) = suffixes.get(count)
+    {
         if changes_receiver(&name.text) {
             let before = &suffixes[..count];
-            return changed(alloc, code, s, n, inner, before, &name.text, &given.items, own);
+            return changed(
+                alloc,
+                code,
+                s,
+                n,
+                inner,
+                before,
+                &name.text,
+                &given.items,
+                own,
+            );
         }
         if name.text.as_slice() == b"writeCallback".as_slice() {
             return written_back(alloc, code, s, n, &given.items, own);

@@ -87,7 +87,15 @@ pub(crate) fn function_code(
     let mut own = own_with(alloc, &arguments)?;
     own.names = names;
     let block = function_block(declaration(s, f.declaration));
-    whole(alloc, s, n, Ending { result, next: None }, block, arguments, own)
+    whole(
+        alloc,
+        s,
+        n,
+        Ending { result, next: None },
+        block,
+        arguments,
+        own,
+    )
 }
 
 pub(crate) fn permission_code(
@@ -224,12 +232,27 @@ fn action_code(
     let arguments = transition_kinds(alloc, s)?;
     let mut own = own_with(alloc, &arguments)?;
     if s.machine.tbe.is_some() {
-        bind(alloc, &mut own, b"tbe".as_slice(), Home::Local(2, tbe_kind(s)))?;
+        bind(
+            alloc,
+            &mut own,
+            b"tbe".as_slice(),
+            Home::Local(2, tbe_kind(s)),
+        )?;
     }
     if s.machine.entry.is_some() {
-        bind(alloc, &mut own, b"cache_entry".as_slice(), Home::Local(1, entry_kind(s)))?;
+        bind(
+            alloc,
+            &mut own,
+            b"cache_entry".as_slice(),
+            Home::Local(1, entry_kind(s)),
+        )?;
     }
-    bind(alloc, &mut own, b"address".as_slice(), Home::Local(0, Kind::Addr))?;
+    bind(
+        alloc,
+        &mut own,
+        b"address".as_slice(),
+        Home::Local(0, Kind::Addr),
+    )?;
     let block = match s.machine.actions.get(usize::from(action)) {
         Some(a) => match declaration(s, a.declaration) {
             Some(Decl::Action(found)) => Some(&found.body),

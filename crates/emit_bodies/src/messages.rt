@@ -1,5 +1,6 @@
 // Messages that are made.
 
+use crate::own::{bind, kept_for};
 use action_code::Instr;
 use body_code::{Home, Own};
 use emit_expressions::index16;
@@ -7,8 +8,6 @@ use ruby_base::{NoMemory, Seq};
 use ruby_symbols::{StructureSymbol, Symbols};
 use ruby_value::Value;
 use std::alloc::Global;
-
-use crate::own::{bind, kept_for};
 
 // The value, where it is another than the default of its kind.
 fn is_set(v: &Value) -> Option<Value> {
@@ -77,5 +76,10 @@ pub(crate) fn fields_kept(
         let k = count - 1 - i;
         code.push(Instr::Store(index16(usize::from(first) + k)?))?;
     }
-    bind(alloc, own, b"out_msg".as_slice(), Home::Kept(structure, first))
+    bind(
+        alloc,
+        own,
+        b"out_msg".as_slice(),
+        Home::Kept(structure, first),
+    )
 }

@@ -39,9 +39,7 @@ fn plain_numbers(alloc: Global, s: Scope<'_>) -> Result<BodyNumbers, NoMemory> {
 // Whether all that are called by these instructions are among those before.
 fn are_before(functions: usize, code: &[Instr], before: &[u16]) -> bool {
     code.iter().all(|i| match i {
-        Instr::Call(k) => {
-            *k as usize >= functions || before.iter().any(|m| u32::from(*m) == *k)
-        }
+        Instr::Call(k) => { *k as usize >= functions || before.iter().any(|m| u32::from(*m) == *k) }
         _ => true,
     })
 }

@@ -20,18 +20,18 @@ fn number32(n: usize) -> Result<u32, NoMemory> {
 
 fn numbers_at(alloc: Global, s: Scope<'_>, first: u32) -> Result<BodyNumbers, NoMemory> {
     let order = order_of(alloc, s)?;
-    let Some(permissions) = first.checked_add(number32(order.len())?) else {
+    let Some(functions) = first.checked_add(number32(s.symbols.machines.len())?) else {
         return Err(NoMemory);
     };
     Ok(BodyNumbers {
         order,
-        first,
-        permissions,
+        first: functions,
+        permissions: first,
     })
 }
 
-fn first_chain(s: Scope<'_>, n: &BodyNumbers) -> Result<u32, NoMemory> {
-    match n.permissions.checked_add(number32(s.symbols.machines.len())?) {
+fn first_chain(n: &BodyNumbers) -> Result<u32, NoMemory> {
+    match n.first.checked_add(number32(n.order.len())?) {
         Some(first) => Ok(first),
         None => Err(NoMemory),
     }
@@ -50,15 +50,15 @@ fn called_bodies(
     s: Scope<'_>,
     n: &BodyNumbers,
 ) -> Result<(), NoMemory> {
+    for m in s.symbols.machines.as_slice() {
+        bodies.push(permission_code(alloc, s, m)?)?;
+    }
     for k in n.order.as_slice() {
         if let Some(f) = s.machine.functions.get(usize::from(*k)) {
             bodies.push(function_code(alloc, s, n, f)?)?;
         }
     }
-    for m in s.symbols.machines.as_slice() {
-        bodies.push(permission_code(alloc, s, m)?)?;
-    }
-    let mut first = first_chain(s, n)?;
+    let mut first = first_chain(n)?;
     for row in s.machine.transitions.as_slice() {
         let actions = row.actions.as_slice();
         for i in 0..actions.len() {
@@ -71,7 +71,9 @@ fn called_bodies(
 }
 
 fn asks_next(m: &MachineSymbols) -> bool {
-    m.transitions.iter().any(|t| matches!(t.next, Some(Next::Asked)))
+    m.transitions
+        .iter()
+        .any(|t| matches!(t.next, Some(Next::Asked)))
 }
 
 fn roots(
@@ -91,7 +93,7 @@ fn roots(
             bodies.push(asked_code(alloc, s, n, f)?)?;
         }
     }
-    let mut first = first_chain(s, n)?;
+    let mut first = first_chain(n)?;
     for row in s.machine.transitions.as_slice() {
         bodies.push(rest_code(alloc, s, n, row.next, first, &row.actions)?)?;
         first = after(first, &row.actions)?;

@@ -224,7 +224,12 @@ fn line(
     own: &mut Own,
 ) -> Result<bool, NoMemory> {
     match statement {
-        Stmt::Declare { kind, name, value: e, .. } => {
+        Stmt::Declare {
+            kind,
+            name,
+            value: e,
+            ..
+        } => {
             let k = match kind_written(s, &kind.text) {
                 Some(k) => k,
                 None => Kind::Bool,
@@ -236,7 +241,11 @@ fn line(
             bind(alloc, own, &name.text, Home::Local(slot, k))?;
             Ok(true)
         }
-        Stmt::Assign { place, value: e, .. } => {
+        Stmt::Assign {
+            place,
+            value: e,
+            ..
+        } => {
             assigned(alloc, code, s, n, place, e, own)?;
             Ok(true)
         }
@@ -265,7 +274,12 @@ fn line(
         Stmt::Peek { port, body, .. } => {
             peeked(alloc, code, s, n, ending, port, &body.statements, own)
         }
-        Stmt::Enqueue { port, latency, body, .. } => enqueued(
+        Stmt::Enqueue {
+            port,
+            latency,
+            body,
+            ..
+        } => enqueued(
             alloc,
             code,
             s,

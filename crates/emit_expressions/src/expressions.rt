@@ -155,7 +155,7 @@ pub fn piece(
         } => {
             let kinds = formals_of(alloc, s, &name.text)?;
             arguments(alloc, code, s, n, names, &kinds, &given.items)?;
-            named_call(code, s, n, &name.text)
+            named_call(alloc, code, s, n, &name.text)
         }
         Expr::New(..) => Ok(Left::Nothing),
         Expr::IsValid(inner, _) => {
@@ -175,7 +175,15 @@ pub fn piece(
             target,
             value: inner,
             ..
-        } => piece(alloc, code, s, n, names, kind_written(s, &target.text), inner.get()),
+        } => piece(
+            alloc,
+            code,
+            s,
+            n,
+            names,
+            kind_written(s, &target.text),
+            inner.get(),
+        ),
         Expr::Group(inner, _) => piece(alloc, code, s, n, names, expected, inner.get()),
     }
 }

@@ -1,5 +1,5 @@
 //! The action code of expressions, written instruction by instruction after what is written already.
-#![tactic(auto)]
+#![tactic(auto, using(crate::proofs::Adding::adds_two))]
 
 mod calls;
 mod code;

@@ -1,6 +1,8 @@
 // What names are in code.
 ghost use Rattle.std.specs.Prelude.{◌≡◌};
-ghost use Rattle.body_code.specs.Prelude.{home_of};
+ghost use Rattle.body_meaning.specs.Prelude.{reading};
+ghost use Rattle.body_code.specs.Prelude.{declared_read, home_of, home_read, member_pushed, name_read, port_read, read_everywhere, value_read};
+ghost use Rattle.emit_expressions.specs.Prelude.{Writes};
 
 use crate::code::index16;
 use crate::kinds::{kind_in, null};
@@ -21,7 +23,9 @@ pub fn home_of(names: &[NameAt], name: &[u8]) -> Option<Home>
     }
 }
 
-fn home_read(code: &mut Seq<Instr>, home: Home) -> Result<Left, NoMemory> {
+fn home_read(code: &mut Seq<Instr>, home: Home) -> Result<Left, NoMemory>
+    ensures { Writes (home_read home) result code.old code.new }
+{
     Ok(match home {
         Home::Local(slot, k) => {
             code.push(Instr::Load(slot))?;
@@ -38,14 +42,18 @@ fn value_read(
     s: Scope<'_>,
     k: u16,
     v: &FieldSymbol,
-) -> Result<Left, NoMemory> {
+) -> Result<Left, NoMemory>
+    ensures { Writes (value_read (reading s.entry) k v.now) result code.old code.new }
+{
     let table = index16(s.machine.tables.len())?;
     code.push(Instr::Push(Value::Entry(Some(Ref { table, line: 0 })), 0))?;
     code.push(Instr::Get(k))?;
     Ok(Left::Value(kind_in(s, v.kind)))
 }
 
-fn read_everywhere(code: &mut Seq<Instr>, name: &[u8]) -> Result<Left, NoMemory> {
+fn read_everywhere(code: &mut Seq<Instr>, name: &[u8]) -> Result<Left, NoMemory>
+    ensures { Writes (read_everywhere name.now) result code.old code.new }
+{
     if name == b"machineID".as_slice() {
         code.push(Instr::Op(58, 0))?;
         return Ok(Left::Value(Kind::Machine));
@@ -57,7 +65,9 @@ fn read_everywhere(code: &mut Seq<Instr>, name: &[u8]) -> Result<Left, NoMemory>
     Ok(Left::Nothing)
 }
 
-fn port_left(buffer: Option<u16>) -> Left {
+fn port_left(buffer: Option<u16>) -> Left
+    ensures { result ≡ (port_read buffer).left }
+{
     match buffer {
         Some(b) => Left::Port(b),
         None => Left::Nothing,
@@ -69,7 +79,9 @@ fn declared_read(
     s: Scope<'_>,
     name: &[u8],
     named: Option<Named>,
-) -> Result<Left, NoMemory> {
+) -> Result<Left, NoMemory>
+    ensures { Writes (declared_read (reading s.entry) name.now named) result code.old code.new }
+{
     let Some(named) = named else {
         return read_everywhere(code, name);
     };
@@ -100,7 +112,9 @@ pub(crate) fn name_read(
     s: Scope<'_>,
     names: &[NameAt],
     name: &[u8],
-) -> Result<Left, NoMemory> {
+) -> Result<Left, NoMemory>
+    ensures { Writes (name_read (reading s.entry) names.now name.now) result code.old code.new }
+{
     match home_of(names, name) {
         Some(home) => home_read(code, home),
         None => declared_read(code, s, name, stands_for(s.machine, name)),
@@ -113,7 +127,9 @@ pub(crate) fn member_pushed(
     s: Scope<'_>,
     owner: &[u8],
     member: &[u8],
-) -> Result<Left, NoMemory> {
+) -> Result<Left, NoMemory>
+    ensures { Writes (member_pushed (reading s.entry) owner.now member.now) result code.old code.new }
+{
     match member_value(s, owner, member) {
         Some(Value::Enum(number, k)) => {
             code.push(Instr::Push(Value::Enum(number, k), 0))?;
