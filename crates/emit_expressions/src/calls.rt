@@ -73,11 +73,16 @@ fn number_after(first: u32, place: usize) -> Result<u32, NoMemory>
     }
 }
 
-// The first place of a function among these, and 0 where it isn't among them.
-fn place_among(order: &[u16], k: u16) -> usize
-    ensures { result ≡ unwrap_or (position (λ f. f == k) order.now) 0 }
+fn place_among(order: &[u16], k: u16) -> Option<usize>
+    ensures { result ≡ position (λ f. f == k) order.now }
 {
-    match order.iter().position(|f| *f == k) {
+    order.iter().position(|f| *f == k)
+}
+
+fn or_first(place: Option<usize>) -> usize
+    ensures { result ≡ unwrap_or place 0 }
+{
+    match place {
         Some(i) => i,
         None => 0,
     }
@@ -87,7 +92,7 @@ fn place_among(order: &[u16], k: u16) -> usize
 pub fn function_body_number(n: &BodyNumbers, k: u16) -> Result<u32, NoMemory>
     ensures { IfOk result (λ body. body ≡ function_body_number n.now k) }
 {
-    number_after(n.first, place_among(&n.order, k))
+    number_after(n.first, or_first(place_among(&n.order, k)))
 }
 
 fn function_called(
@@ -182,7 +187,7 @@ fn kinds_of(alloc: Global, s: Scope<'_>, formals: &[FormalSymbol]) -> Result<Seq
 }
 
 /// The kinds of the formals of a function of the machine, where the name is that of one.
-pub(crate) fn formals_of(alloc: Global, s: Scope<'_>, name: &[u8]) -> Result<Seq<Kind>, NoMemory>
+pub fn formals_of(alloc: Global, s: Scope<'_>, name: &[u8]) -> Result<Seq<Kind>, NoMemory>
     ensures { IfOk result (λ kinds. kinds ≡ formals_of (reading s.entry) name.now) }
 {
     let Some(k) = function_named(s.machine, name) else {
@@ -195,7 +200,7 @@ pub(crate) fn formals_of(alloc: Global, s: Scope<'_>, name: &[u8]) -> Result<Seq
 }
 
 /// A call without a receiver, after its arguments.
-pub(crate) fn named_call(
+pub fn named_call(
     alloc: Global,
     code: &mut Seq<Instr>,
     s: Scope<'_>,
@@ -254,7 +259,7 @@ fn numbered_call(code: &mut Seq<Instr>, s: Scope<'_>, c: Option<Numbered>) -> Re
 }
 
 /// A call on what was left, after its arguments, which are so many.
-pub(crate) fn method_call(
+pub fn method_call(
     alloc: Global,
     code: &mut Seq<Instr>,
     s: Scope<'_>,
@@ -270,7 +275,7 @@ pub(crate) fn method_call(
 }
 
 /// The index of what was left by an address.
-pub(crate) fn index(
+pub fn index(
     alloc: Global,
     code: &mut Seq<Instr>,
     s: Scope<'_>,
