@@ -18,4 +18,4 @@ pub use find::find_answer;
 pub use laws::{answers_are_one, clauses_follow};
 pub use ruby_base::{NoMemory, Seq};
 pub use tables::table_rows;
-pub use writing::write_answer;
+pub use writing::{text_journal, write_answer};

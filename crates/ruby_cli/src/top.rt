@@ -1,12 +1,12 @@
 // The top call on one thread.
 ghost use Rattle.std.specs.Prelude.{◌≡◌, ◌≢◌, Some, IfSome, IsUtf8};
 ghost use Rattle.ruby_outside.specs.Prelude.{Rose};
-ghost use Rattle.ruby_answers.specs.Prelude.{IsAnswered, IsReadOnce, IsWokenOnce, IsMessageAccount, IsInvalidExactly, IsTallied, IsAsAsked, IsAsWritten, IsCaused, IsComplete, IsByOneWorker, IsWholeRun};
+ghost use Rattle.ruby_answers.specs.Prelude.{IsAnswered, IsReadOnce, IsWokenOnce, IsMessageAccount, IsInvalidExactly, IsTallied, IsOnlyAnswer, IsAsAsked, IsAsWritten, IsCaused, IsComplete, IsByOneWorker, IsWholeRun};
 ghost use Rattle.ruby_options.specs.Prelude.{IsWithin};
 ghost use Rattle.ruby_options.specs.declared.options.Command.TheVariants.{Code};
 
 use crate::{Done, Options};
-use ruby_answers::{clauses_follow, find_answer, write_answer};
+use ruby_answers::{clauses_follow, find_answer, text_journal, write_answer};
 use ruby_base::NoMemory;
 use ruby_outside::{Library, Sink};
 use std::alloc::Global;
@@ -27,10 +27,13 @@ fn answer_options<L: Library, S: Sink>(
 {
     match find_answer(alloc, options, library) {
         Err(NoMemory) => Done::out_of_memory(),
-        Ok(answer) => {
-            let whole = write_answer(sink, &answer);
-            Done::of(answer, whole)
-        }
+        Ok(answer) => match text_journal(alloc, &answer) {
+            Err(NoMemory) => Done::out_of_memory(),
+            Ok(ordered) => {
+                let whole = write_answer(sink, &answer, &ordered);
+                Done::of(answer, whole)
+            }
+        },
     }
 }
 
@@ -64,6 +67,7 @@ pub fn ruby_alone<L: Library, S: Sink>(
     ensures accounted { IfSome result.kept IsMessageAccount }
     ensures invalid_exactly { IfSome result.kept IsInvalidExactly }
     ensures tallied { IfSome result.kept IsTallied }
+    ensures one_answer { IfSome result.kept IsOnlyAnswer }
     ensures causes { IsCaused (L.files library.old) (Some options) (Rose (L.faults library.old) (L.faults library.new)) (Rose (S.faults sink.old) (S.faults sink.new)) result }
     ensures complete { IsComplete (L.files library.old) (Some options) (Rose (L.faults library.old) (L.faults library.new)) (Rose (S.faults sink.old) (S.faults sink.new)) result }
 

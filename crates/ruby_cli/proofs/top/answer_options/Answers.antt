@@ -6,6 +6,11 @@ returns-in-Err-clause-answered g c =
     unanswered g.L.Library.reads g.S.Sink.writes c.args.options c.args.library.now c.find_answer.new.library c.args.sink.now _ c.out_of_memory.result
     c.in-Err.ensures.found c.out_of_memory.ensures
 
+pub returns-in-Err-2-clause-answered : goal.returns-in-Err-2-clause-answered
+returns-in-Err-2-clause-answered g c =
+    unanswered g.L.Library.reads g.S.Sink.writes c.args.options c.args.library.now c.find_answer.new.library c.args.sink.now _ c.out_of_memory.result
+    c.in-Ok.ensures.found c.out_of_memory.ensures
+
 pub returns-in-Ok-clause-answered : goal.returns-in-Ok-clause-answered
 returns-in-Ok-clause-answered g c =
     answered g.L.Library.reads g.S.Sink.writes c.args.options c.args.library.now c.find_answer.new.library c.args.sink.now c.write_answer-whole.new.sink
