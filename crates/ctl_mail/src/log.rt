@@ -92,7 +92,8 @@ impl ActLog {
         Ok(())
     }
 
-    /// Adds an act, where there is room. It takes no memory.
+    /// Adds an act, where there is room. It takes no memory. Most calls know which act it is, so that little is left to do.
+    #[inline(always)]
     pub(crate) fn push_reserved(&mut self, act: MailAct)
         requires { 0 < self.old.room }
         ensures after { self.new.kept ≡ self.old.kept ++ act ∷ [] }
@@ -104,6 +105,7 @@ impl ActLog {
     }
 
     /// Adds an act, or answers that there is no memory for it.
+    #[inline(always)]
     pub(crate) fn push(&mut self, act: MailAct) -> Result<(), NoMemory>
         ensures ok { OnOk result (self.new.kept ≡ self.old.kept ++ act ∷ []) }
         ensures err { OnErr result (self.new.kept ≡ self.old.kept) }
