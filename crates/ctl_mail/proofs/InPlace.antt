@@ -1,5 +1,5 @@
 -- A move in its place among those that a scan has made, and a last arrival in its place among those that it has written.
-use Rattle.std.proofs.Common.{◌≡◌, ◌≢◌, ◌<◌, ◌-◌, ℕ, suc, false, Option, None, Some, Result, Ok, Err, OnOk, is_err, List, get_or, set, insert, drop, length, refl, sym, ap, subst, ◌∙◌, arith}
+use Rattle.std.proofs.Common.{◌≡◌, ◌≢◌, ◌<◌, ◌-◌, ℕ, suc, false, Option, None, Some, Result, Ok, Err, OnOk, is_err, List, [], ◌∷◌, get_or, set, insert, drop, length, refl, sym, ap, subst, ◌∙◌, arith}
 use Rattle.std.proofs.lemmas.List.{get_or_default}
 use Rattle.ruby_value.specs.declared.message.MsgNo.{MsgNo}
 use Rattle.ruby_value.specs.Prelude.{same_number}
@@ -21,6 +21,12 @@ number_of m = m.number
 pub with-rises : (moves : List Move) (number : MsgNo) (line : Option ℕ) → MovesRise moves → MovesRise (with_move moves number line)
 unfolding with_move
 with-rises moves number line rise = rise-with number_of moves (record { number = number; line = line }) rise
+
+-- no moves change where a message waits
+pub waiting-none : (number : MsgNo) (moves : List Move) (before : Option ℕ) → length moves ≡ 0 → before ≡ waiting_after number moves before
+unfolding waiting_after
+waiting-none number [] before none = refl
+waiting-none number (m ∷ moves) before none = absurd (omega (arith, none))
 
 module _ (moves : List Move) (number : MsgNo) (line : Option ℕ) (at : ℕ) (rise : MovesRise moves) (split : IsSplit number_of number moves at) where
   -- the move of this number is the last of those up to it

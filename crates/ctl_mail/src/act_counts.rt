@@ -64,6 +64,7 @@ pub(crate) const NO_COUNTS: ActCounts = ActCounts {
 };
 
 /// The counts with one act more.
+#[inline(always)]
 pub(crate) fn counts_with(counts: ActCounts, act: &MailAct) -> ActCounts
     requires stalls { counts.stalls + 1 < 2 ^ 64 }
     requires wakes { counts.wakes + 1 < 2 ^ 64 }

@@ -109,6 +109,10 @@ impl MailChanges {
         ensures left { let old = told_by self.old in
             told_by self.new ≡ record old { acts = record old.acts { posted = [] } } }
     {
+        // The room of a list stays where nothing was posted.
+        if self.posted.is_empty() {
+            return Seq::new(self.alloc);
+        }
         Seq::of(mem::replace(&mut self.posted, Vec::new(self.alloc)))
     }
 

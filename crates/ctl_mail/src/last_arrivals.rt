@@ -68,6 +68,7 @@ fn write(arrivals: &mut Vec<LastArrival>, l: LastArrival)
 }
 
 /// Keeps the last arrival on a network that an act writes, if it writes one, where there is room. It takes no memory.
+#[inline(always)]
 pub(crate) fn keep_act(arrivals: &mut Vec<LastArrival>, act: &MailAct)
     requires rise { ArrivalsRise arrivals.old.items }
     requires room { vec_len arrivals.old < vec_capacity arrivals.old }

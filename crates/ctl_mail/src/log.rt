@@ -69,6 +69,9 @@ impl ActLog {
     pub(crate) fn clear(&mut self)
         ensures { self.new.kept ≡ [] }
     {
+        if self.acts.is_empty() {
+            return;
+        }
         self.acts.clear();
         self.counts = NO_COUNTS;
         self.arrivals.clear();
@@ -83,6 +86,7 @@ impl ActLog {
     }
 
     /// Makes room for so many more acts, or answers that there is no memory for them.
+    #[inline(always)]
     pub(crate) fn reserve(&mut self, more: usize) -> Result<(), NoMemory>
         ensures same { self.new.kept ≡ self.old.kept }
         ensures ok { OnOk result (more ≤ self.new.room) }
@@ -92,7 +96,8 @@ impl ActLog {
         Ok(())
     }
 
-    /// Adds an act, where there is room. It takes no memory.
+    /// Adds an act, where there is room. It takes no memory. Most calls know which act it is, so that little is left to do.
+    #[inline(always)]
     pub(crate) fn push_reserved(&mut self, act: MailAct)
         requires { 0 < self.old.room }
         ensures after { self.new.kept ≡ self.old.kept ++ act ∷ [] }
@@ -104,6 +109,7 @@ impl ActLog {
     }
 
     /// Adds an act, or answers that there is no memory for it.
+    #[inline(always)]
     pub(crate) fn push(&mut self, act: MailAct) -> Result<(), NoMemory>
         ensures ok { OnOk result (self.new.kept ≡ self.old.kept ++ act ∷ []) }
         ensures err { OnErr result (self.new.kept ≡ self.old.kept) }
@@ -182,12 +188,12 @@ impl ActLog {
         mem::replace(&mut self.acts, VecDeque::new(alloc))
     }
 
-    /// Takes the room of acts back that are made.
+    /// Takes the room of acts back that are made, where no others are kept.
     pub(crate) fn give_back(&mut self, acts: VecDeque<MailAct>)
-        requires { acts.items ≡ [] }
+        requires left { self.old.kept ≡ [] }
+        requires made { acts.items ≡ [] }
         ensures { self.new.kept ≡ [] }
     {
-        self.clear();
         self.acts = acts;
     }
 }

@@ -88,6 +88,9 @@ impl Moves {
     pub(crate) fn waiting(&self, number: MsgNo, before: Option<u64>) -> Option<u64>
         ensures { result ≡ waiting_after number self.now.kept before }
     {
+        if self.moves.is_empty() {
+            return before;
+        }
         let at = count_up_to(&self.moves, number);
         if at > 0 && self.moves[at - 1].number == number {
             return self.moves[at - 1].line;

@@ -35,6 +35,7 @@ fn counts_after(counts: SendCounts, drawn: bool) -> SendCounts
 
 impl MailChanges {
     // Makes room for so many more copies, or answers that there is no memory for them.
+    #[inline(always)]
     pub(crate) fn reserve_copies(&mut self, copies: usize) -> Result<(), NoMemory>
         requires { copies ≤ 4096 }
         ensures same { told_by self.new ≡ told_by self.old }
@@ -47,6 +48,7 @@ impl MailChanges {
     }
 
     // Keeps that a slot more is in use, where the buffer at the receiver has a size and there is room.
+    #[inline(always)]
     fn keep_lend(&mut self, routes: &Routes, receiver: u32, buffer: u16)
         requires { HasSpace self.old 1 0 }
         ensures after { let old = told_by self.old in
@@ -63,6 +65,7 @@ impl MailChanges {
 
     // Keeps a copy with the controller's next number, where there is room. One to the controller itself comes into its mail, and one
     // to a buffer with a size takes a slot.
+    #[inline(always)]
     pub(crate) fn keep_copy(
         &mut self,
         me: u32,
@@ -116,6 +119,7 @@ impl MailChanges {
     }
 
     // Keeps an act, where there is room.
+    #[inline(always)]
     pub(crate) fn keep_act(&mut self, act: MailAct)
         requires { HasSpace self.old 1 0 }
         ensures after { told_by self.new ≡ told_with_act act (told_by self.old) }

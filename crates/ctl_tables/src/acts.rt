@@ -13,6 +13,7 @@ use ruby_value::{Fault, Fields, NoMemory, Ref, Value};
 
 impl TableChanges {
     // Logs one more change. Without memory for it the log is as it was.
+    #[inline(always)]
     pub(crate) fn log(&mut self, table: u16, line: u64, edit: Edit) -> Result<(), Trouble>
         ensures ok { OnOk result (log_of self.new ≡ record { table = table; line = line; edit = edit } ∷ log_of self.old) }
         ensures err { OnErr result (log_of self.new ≡ log_of self.old) }

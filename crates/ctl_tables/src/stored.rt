@@ -73,7 +73,10 @@ impl StoredTable {
     pub(crate) fn has_line(&self, line: u64) -> bool
         ensures { result ≡ is_some (fields_in (table_of self.now) line) }
     {
-        self.fields(line).is_some()
+        match self {
+            StoredTable::Directory(_) => true,
+            _ => self.fields(line).is_some(),
+        }
     }
 
     // Whether lines can be taken out of it.

@@ -83,13 +83,13 @@ module _ (places : List Place) (lists : List (Vec Parcel Global)) where
       apart-partly c differ =
           partly-same (slice_get places c) (slice_get now c) (slice_get then c) (waiting_at lists c) (waiting_at waits c) (waiting_at rest c) (others c differ) (same c differ) (partly c)
 
-      pub then-settled : ComesWithRoom (waiting_at waits i) (slice_get now i) (slice_get then i) → waiting_at rest i ≡ [] → SettledUpTo (i + 1) then rest
+      pub then-settled : Comes (waiting_at waits i) (slice_get now i) (slice_get then i) → waiting_at rest i ≡ [] → SettledUpTo (i + 1) then rest
       then-settled comes none =
           let place = so.left i (omega arith) in
           let list = so.still i (omega arith) in
           let came : Comes (waiting_at lists i) (slice_get places i) (slice_get then i) =
           subst (λ (o : Option Place). Comes (waiting_at lists i) o (slice_get then i)) place
-          (subst (λ (ps : List Parcel). Comes ps (slice_get now i) (slice_get then i)) list (without-room (waiting_at waits i) (slice_get now i) (slice_get then i) comes)) in
+          (subst (λ (ps : List Parcel). Comes ps (slice_get now i) (slice_get then i)) list comes) in
           let here : HasPartlyCome (slice_get places i) (waiting_at lists i) (slice_get then i) (waiting_at rest i) =
           partly-all (slice_get places i) (slice_get then i) (waiting_at lists i) (waiting_at rest i) came none in
           record {

@@ -31,7 +31,7 @@ pub record HasRoomToAct {D : Type 0} (requests : ℕ) (r : Room) (st : State D) 
   pub few : requests < 2 ^ 32
   pub lists : HasRoomFor requests r.requests
   pub none : r.requests.messages.items ≡ []
-  pub places : All (HasRoom requests) st.places.items
+  pub places : 0 < requests → All (HasRoom requests) st.places.items
   pub mail : r.mail ≡ messages_in st.book.journal
   pub mail_fits : r.mail + requests < 2 ^ 64
   pub event : 0 < st.book.event_room

@@ -139,12 +139,16 @@ impl Requests {
     }
 }
 
-/// Makes room for so many messages and credits at each controller that nobody holds, or answers that there is no memory for them.
+/// Makes room for so many messages and credits at each controller that nobody holds, if there are to be any, or answers that there is no
+/// memory for them.
 pub fn room_for_all(places: &mut [Place], parcels: u32) -> Result<(), NoMemory>
     ensures same { (held : Ctl) → places_with held places.new ≡ places_with held places.old }
     ensures made { made_in places.new ≡ made_in places.old }
-    ensures ok { OnOk result (All (HasRoom parcels) places.new) }
+    ensures ok { OnOk result (0 < parcels → All (HasRoom parcels) places.new) }
 {
+    if parcels == 0 {
+        return Ok(());
+    }
     for place in places.iter_mut() {
         place.room(parcels)?;
     }
@@ -185,11 +189,14 @@ fn deliver_all(places: &mut Vec<Place>, mut newest_first: Vec<Delivery<Parcel>>)
 #[tactic(auto, using(crate::proofs::ArrivingAt::twice_reversed))]
 pub fn deliver(places: &mut Vec<Place>, deliveries: Seq<Delivery<Parcel>>)
     requires can { CanArrive places.old.items deliveries }
-    requires room { All (HasRoom (length deliveries)) places.old.items }
+    requires room { 0 < length deliveries → All (HasRoom (length deliveries)) places.old.items }
     ensures places { (held : Ctl) → places_with held places.new.items
         ≡ delivered (places_with held places.old.items) deliveries }
     ensures made { made_in places.new.items ≡ made_in places.old.items }
 {
+    if deliveries.is_empty() {
+        return;
+    }
     let mut newest_first = deliveries.into_vec();
     newest_first.reverse();
     deliver_all(places, newest_first);

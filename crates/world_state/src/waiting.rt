@@ -128,6 +128,31 @@ pub fn settle_at(
     Ok(())
 }
 
+// What waits for a controller that nobody holds comes to it, if anything does. Without memory it still waits.
+fn settle_any(
+    places: &mut Vec<Place>,
+    waiting: &mut Vec<Vec<Parcel>>,
+    c: usize,
+) -> Result<(), NoMemory>
+    requires { CanSettle c places.old.items waiting.old.items }
+    ensures count { length places.new.items ≡ length places.old.items }
+    ensures lists { length waiting.new.items ≡ length waiting.old.items }
+    ensures made { made_in places.new.items ≡ made_in places.old.items }
+    ensures others { (d : ℕ) → d ≢ c → slice_get places.new.items d ≡ slice_get places.old.items d }
+    ensures rest { (d : ℕ) → d ≢ c → waiting_at waiting.new.items d ≡ waiting_at waiting.old.items d }
+    ensures ok { OnOk result (Comes (waiting_at waiting.old.items c)
+        (slice_get places.old.items c) (slice_get places.new.items c)) }
+    ensures none { OnOk result (waiting_at waiting.new.items c ≡ []) }
+    ensures err { OnErr result (Comes [] (slice_get places.old.items c) (slice_get places.new.items c)) }
+    ensures same { OnErr result (waiting_at waiting.new.items c ≡ waiting_at waiting.old.items c) }
+{
+    let list = &waiting[c];
+    if list.is_empty() {
+        return Ok(());
+    }
+    settle_at(places, waiting, c)
+}
+
 /// What waits comes to each controller, of which none is held. Without memory some still waits.
 pub fn settle_all(places: &mut Vec<Place>, waiting: &mut Vec<Vec<Parcel>>) -> Result<(), NoMemory>
     requires count { length waiting.old.items ≡ length places.old.items }
@@ -142,7 +167,7 @@ pub fn settle_all(places: &mut Vec<Place>, waiting: &mut Vec<Vec<Parcel>>) -> Re
     ensures none { OnOk result ((c : ℕ) → waiting_at waiting.new.items c ≡ []) }
 {
     for c in 0..places.len() {
-        settle_at(places, waiting, c)?;
+        settle_any(places, waiting, c)?;
     }
     Ok(())
 }

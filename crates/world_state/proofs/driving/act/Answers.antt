@@ -1,4 +1,4 @@
-use Rattle.std.proofs.Common.{◌≡◌, ◌∙◌, List, ap, arith, length}
+use Rattle.std.proofs.Common.{◌≡◌, ◌≤◌, ◌∙◌, List, ap, arith, length}
 use Rattle.ruby_value.specs.declared.message.Delivery.{Delivery}
 use Rattle.ctl_face.specs.declared.parcel.Parcel.{Parcel}
 use Rattle.ruby_value.specs.declared.message.MsgNo.{MsgNo}
@@ -33,8 +33,10 @@ deliver-requires-clause-room g c =
     let acted = c.act_at_seats-finding.ensures in
     let count = ap (λ (ms : List (Delivery Parcel)). length ms) (c.into_parts-messages.ensures.messages ∙ acted.messages) in
     let few = few-messages (setups_in seats) (length st.places.items) st.issued st.now d.issued in
-    room-fewer owned.room (length c.into_parts-messages.result.0) c.act_at_seats-finding.new.st.places.items (omega (arith, count, few, c.requires.ready.lawful.few))
-    (acted.room owned.room c.requires.room.places)
+    let fewer : length c.into_parts-messages.result.0 ≤ owned.room = omega (arith, count, few, c.requires.ready.lawful.few) in
+    λ some.
+    room-fewer owned.room (length c.into_parts-messages.result.0) c.act_at_seats-finding.new.st.places.items fewer
+    (acted.room owned.room (c.requires.room.places (omega (arith, some, fewer))))
 
 pub returns-clause-acted : goal.returns-clause-acted
 returns-clause-acted g c =

@@ -7,23 +7,23 @@ use Rattle.world_state.proofs.waiting.settle_all.Goals as goal
 pub loop-c-init : goal.loop-c-init
 loop-c-init c = (settled-none c.args.places.now.items c.args.waiting.now.items, (omega arith, refl))
 
-pub settle_at-requires : goal.settle_at-requires
-settle_at-requires c =
+pub settle_any-requires : goal.settle_any-requires
+settle_any-requires c =
     can-next c.args.places.now.items c.args.waiting.now.items c.loop-c.c c.loop-c.places.items c.loop-c.waiting.items c.loop-c.invariant.0
     (c.requires.can c.loop-c.c (omega (arith, c.loop-c.invariant.1.0, c.loop-c-test.true)))
 
-pub returns-in_err-settle_at-clause-some : goal.returns-in_err-settle_at-clause-some
-returns-in_err-settle_at-clause-some c =
+pub returns-in_err-settle_any-clause-some : goal.returns-in_err-settle_any-clause-some
+returns-in_err-settle_any-clause-some c =
     then-partly c.args.places.now.items c.args.waiting.now.items c.loop-c.c c.loop-c.places.items c.loop-c.waiting.items c.loop-c.invariant.0
-    c.settle_at.new.places.items c.settle_at.new.waiting.items c.settle_at.ensures.count c.settle_at.ensures.lists c.settle_at.ensures.others c.settle_at.ensures.rest
-    c.in_err-settle_at.ensures.err c.in_err-settle_at.ensures.same
+    c.settle_any.new.places.items c.settle_any.new.waiting.items c.settle_any.ensures.count c.settle_any.ensures.lists c.settle_any.ensures.others c.settle_any.ensures.rest
+    c.in_err-settle_any.ensures.err c.in_err-settle_any.ensures.same
 
 pub loop-c-preserved : goal.loop-c-preserved
 loop-c-preserved c = (
   then-settled c.args.places.now.items c.args.waiting.now.items c.loop-c.c c.loop-c.places.items c.loop-c.waiting.items c.loop-c.invariant.0
-      c.settle_at.new.places.items c.settle_at.new.waiting.items c.settle_at.ensures.count c.settle_at.ensures.lists c.settle_at.ensures.others c.settle_at.ensures.rest
-      c.in_ok-settle_at.ensures.ok c.in_ok-settle_at.ensures.none,
-  (c.loop-c.invariant.1.0, c.settle_at.ensures.made ∙ c.loop-c.invariant.1.1),
+      c.settle_any.new.places.items c.settle_any.new.waiting.items c.settle_any.ensures.count c.settle_any.ensures.lists c.settle_any.ensures.others c.settle_any.ensures.rest
+      c.in_ok-settle_any.ensures.ok c.in_ok-settle_any.ensures.none,
+  (c.loop-c.invariant.1.0, c.settle_any.ensures.made ∙ c.loop-c.invariant.1.1),
 )
 
 pub returns-clause-some : goal.returns-clause-some
@@ -40,5 +40,5 @@ returns-clause-none c =
     (omega (arith, above, c.loop-c.invariant.1.0, c.loop-c-test.false, so.counted, c.requires.count)))
     (cases_lt k c.loop-c.c)
 
-pub returns-in_err-settle_at-clause-made : goal.returns-in_err-settle_at-clause-made
-returns-in_err-settle_at-clause-made c = c.settle_at.ensures.made ∙ c.loop-c.invariant.1.1
+pub returns-in_err-settle_any-clause-made : goal.returns-in_err-settle_any-clause-made
+returns-in_err-settle_any-clause-made c = c.settle_any.ensures.made ∙ c.loop-c.invariant.1.1

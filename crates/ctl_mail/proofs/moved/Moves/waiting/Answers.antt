@@ -1,12 +1,20 @@
-use Rattle.std.proofs.Common.{◌≢◌, ◌<◌, ◌-◌, List, get_or, length, sym, ap, ◌∙◌, arith}
+use Rattle.std.proofs.Common.{◌≡◌, ◌≢◌, ◌<◌, ◌-◌, List, get_or, length, sym, ap, ◌∙◌, arith}
+use Rattle.std.proofs.lemmas.Bool.Decides.{nat_tests}
 use Rattle.std.proofs.lemmas.List.{get_or_read}
 use Rattle.ruby_value.specs.Prelude.{Roomy}
 use Rattle.stall_map.proofs.Numbers.{differ-is, same-is}
 use Rattle.ctl_mail.specs.declared.moves.Move.{Move}
 use Rattle.ctl_mail.specs.Moves.{waiting_after}
-use Rattle.ctl_mail.proofs.InPlace.{waiting-not-there, waiting-there}
+use Rattle.ctl_mail.proofs.InPlace.{waiting-none, waiting-not-there, waiting-there}
 use Rattle.ctl_mail.proofs.moved.Moves.waiting.Goals as goal
 use Rattle.ctl_mail.proofs.moved.Moves.waiting.Goals.{else-at-gt0-via-then-at-gt0+else-eq, else-at-gt0-via-else-at-gt0}
+
+pub returns-then-is_empty : goal.returns-then-is_empty
+returns-then-is_empty c =
+    let moves : List Move = c.self.inside.moves.items in
+    let none : length moves ≡ 0 = grind (arith, nat_tests, c.self.inside.moves.ok) in
+    waiting-none c.args.number moves c.args.before none
+    ∙ ap (λ (r : Roomy (List Move)). waiting_after c.args.number r.kept c.args.before) c.self.view_is
 
 pub returns-then-eq : goal.returns-then-eq
 returns-then-eq c =
