@@ -3,3 +3,4 @@ mod Behind
 mod NumbersOfNames
 mod AmongParts
 pub mod TablesOfMachines
+mod StateCounts

@@ -1,9 +1,9 @@
 //! The written transitions of a protocol's machines, and the tables that are made of them.
-ghost use Rattle.std.specs.Prelude.{◌≡◌, ◌≤◌, ℕ, [], All, length, map, slice_get, IfOk};
+ghost use Rattle.std.specs.Prelude.{◌≡◌, ◌≤◌, ℕ, [], All, length, map, option_and_then, slice_get, IfOk};
 ghost use Rattle.slicc_plan.specs.Buffers.{listed};
-ghost use Rattle.slicc_plan.specs.Prelude.{HasFewMachines, HasFewParts, in_each_from, machines_of, written_of, first_after, shared_pairs, shared_pairs_in};
-ghost use Rattle.pair_table.specs.Prelude.{IsTableOf};
-ghost use Rattle.machine_table.specs.Prelude.{answer, rows_of_found, AreTablesOf, IsBuilt};
+ghost use Rattle.slicc_plan.specs.Prelude.{HasFewMachines, HasFewParts, in_each_from, machines_of, written_of, first_after, shared_pairs, shared_pairs_in, state_members};
+ghost use Rattle.pair_table.specs.Prelude.{IsTableOf, answer_of};
+ghost use Rattle.machine_table.specs.Prelude.{answer, rows_of_found, state_count, AreStateCountsOf, AreTablesOf, IsBuilt};
 
 use crate::parts::{event_count, machines, state_count};
 use crate::table::{TableFault, Tables};
@@ -74,26 +74,43 @@ fn machine_table(alloc: Global, m: &Machine) -> Result<Table, NoMemory>
     table_of(alloc, &ws, state_count(m), event_count(m))
 }
 
-fn tables_among(alloc: Global, machines: &[&Machine]) -> Result<Tables, NoMemory>
+fn tables_among(alloc: Global, machines: &[&Machine]) -> Result<Seq<Table>, NoMemory>
     requires parts { All HasFewParts (map (λ m. m.now) machines.now) }
     requires alone { in_each_from 0 shared_pairs_in (map (λ m. m.now) machines.now) ≡ [] }
-    ensures { IfOk result (λ t. (n s e : ℕ) → rows_of_found (slice_get (map (λ m. m.now) machines.now) n) s e ≡ listed (answer t n s e)) }
+    ensures { IfOk result (λ t. (n s e : ℕ) → rows_of_found (slice_get (map (λ m. m.now) machines.now) n) s e ≡ listed (option_and_then (answer_of s e) (slice_get t n))) }
 {
     let mut tables = Seq::new(alloc);
     for m in machines {
         tables.push(machine_table(alloc, m)?)?;
     }
-    Ok(Tables { machines: tables })
+    Ok(tables)
+}
+
+// How many states each machine has.
+fn state_counts(alloc: Global, machines: &[&Machine]) -> Result<Seq<usize>, NoMemory>
+    ensures { IfOk result (λ counts. counts ≡ map (λ m. length (state_members m.now)) machines.now) }
+{
+    let mut counts = Seq::new(alloc);
+    for m in machines {
+        counts.push(state_count(m))?;
+    }
+    Ok(counts)
 }
 
 /// The tables of a protocol's machines, in none of which a pair has two transitions.
 pub fn tables_of(alloc: Global, trees: &[Tree]) -> Result<Tables, NoMemory>
     requires few { HasFewMachines trees.now }
     requires alone { shared_pairs trees.now ≡ [] }
-    ensures { IfOk result (λ t. AreTablesOf trees.now (answer t)) }
+    ensures rows { IfOk result (λ t. AreTablesOf trees.now (answer t)) }
+    ensures counts { IfOk result (λ t. AreStateCountsOf trees.now (state_count t)) }
 {
     let machines = machines(alloc, trees)?;
-    tables_among(alloc, &machines)
+    let tables = tables_among(alloc, &machines)?;
+    let counts = state_counts(alloc, &machines)?;
+    Ok(Tables {
+        machines: tables,
+        counts,
+    })
 }
 
 /// The tables of the machines of a protocol with these trees. `Duplicate` comes exactly where a state and an event of a machine have

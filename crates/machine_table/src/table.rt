@@ -9,6 +9,8 @@ use slicc_plan::{Row, Span};
 #[derive(Drop)]
 pub struct Tables {
     pub(crate) machines: Seq<Table>,
+    // How many states each machine has.
+    pub(crate) counts: Seq<usize>,
 }
 
 /// Why there are no tables.
@@ -35,7 +37,7 @@ impl From<NoMemory> for TableFault {
 
 impl Tables {
     ghost use Rattle.std.specs.Option.{option_copied};
-    ghost use Rattle.machine_table.specs.Answers.{answer};
+    ghost use Rattle.machine_table.specs.Answers.{answer, state_count};
 
     /// What a machine does on an event in a state, by their numbers: the one row that is written for them, or `None` where none
     /// is. It takes no memory.
@@ -45,6 +47,16 @@ impl Tables {
         match self.machines.get(machine as usize) {
             None => None,
             Some(table) => table.row(state, event),
+        }
+    }
+
+    /// How many states a machine has, by its number, and 0 where there is none. It takes no memory.
+    pub fn states(&self, machine: u16) -> usize
+        ensures { result ≡ state_count self.now machine }
+    {
+        match self.counts.get(machine as usize) {
+            None => 0,
+            Some(count) => *count,
         }
     }
 }

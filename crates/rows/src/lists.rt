@@ -20,8 +20,12 @@ fn is_row(line: &str) -> bool {
     }
 }
 
-// Adds the words of a line, which are separated by blanks.
-fn add_words(alloc: Global, line: &str, words: &mut Vec<String>) -> Result<(), NoMemory> {
+/// Adds the words of a line, which are separated by blanks.
+pub(crate) fn add_words(
+    alloc: Global,
+    line: &str,
+    words: &mut Vec<String>,
+) -> Result<(), NoMemory> {
     for word in line.split_whitespace() {
         words.push(String::from_str(alloc, word)?)?;
     }

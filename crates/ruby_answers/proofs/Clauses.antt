@@ -14,11 +14,11 @@ use Rattle.protocol_meaning.specs.declared.record.RunRecord.{RunRecord}
 use Rattle.ruby_answers.specs.declared.done.Answer.{Answer}
 use Rattle.ruby_answers.specs.declared.done.Answer.TheVariants.{Usage, ReadFault}
 use Rattle.ruby_answers.specs.declared.done.Done.{Done}
-use Rattle.ruby_answers.specs.Prelude.{status_of, kept_of, done_of, out_of_memory, verdict_status, lines_of, text_of, IsAnswered, IsAsAsked, IsCaused, IsComplete, IsInvalidExactly, IsMade, IsMessageAccount, IsOneOf, IsTallied, IsTheorem, IsToMakeRun, IsVerdictStatus, IsWokenOnce, makes_run, statuses_of, IsWholeRun, IsAnswer, IsRight, IsRunOver}
+use Rattle.ruby_answers.specs.Prelude.{status_of, kept_of, done_of, out_of_memory, verdict_status, lines_of, text_of, IsAnswered, IsAsAsked, IsCaused, IsComplete, IsInvalidExactly, IsMade, IsMessageAccount, IsOnlyAnswer, IsOneOf, IsTallied, IsTheorem, IsToMakeRun, IsVerdictStatus, IsWokenOnce, makes_run, statuses_of, IsWholeRun, IsAnswer, IsRight, IsRunOver}
 use Rattle.ruby_answers.proofs.Causes.{five_failed, low_kept, never_one, never_seven, none_usage, only_of, given_or_five, same_status, same_told, status_kept, two_asked, zero_makes_none}
 use Rattle.ruby_answers.proofs.OverFiles.{same_over}
 use Rattle.ruby_answers.proofs.RightRuns.{AreLawful, IsRunAsked, lawful_run, over_files, run_asked, run_makes, run_there_over}
-use Rattle.ruby_answers.proofs.WholeRuns.{IsLawfulRun, accounted_whole, invalid_whole, tallied_whole, woken_whole}
+use Rattle.ruby_answers.proofs.WholeRuns.{AreOne, IsLawfulRun, accounted_whole, invalid_whole, one_whole, tallied_whole, woken_whole}
 
 -- what holds of the run of an answer holds of the record that is kept
 of_kept : (P : RunRecord → Type 0) (k : Option RunRecord) → ((r : RunRecord) → k ≡ Some r → P r) → IfSome k P
@@ -121,12 +121,13 @@ module _ (files : Option Files) (asked : Option Options) (read_rose write_rose :
         accounted = tt;
         invalid_exactly = tt;
         tallied = tt;
+        one_answer = tt;
         causes = untold_causes;
         complete = record { made = λ told tells still. inl refl };
       }
 
 -- the clauses of a call that has answered
-module _ (laws : AreLawful) (files : Option Files) (asked : Option Options) (within : IfSome asked IsWithin) (read_rose write_rose : Type 0) (before after : Option (List ℕ)) (write_faults write_faults' : ℕ) (made : List Read) (a : Answer) (right : IsRight asked made a)
+module _ (laws : AreLawful) (ones : AreOne) (files : Option Files) (asked : Option Options) (within : IfSome asked IsWithin) (read_rose write_rose : Type 0) (before after : Option (List ℕ)) (write_faults write_faults' : ℕ) (made : List Read) (a : Answer) (right : IsRight asked made a)
     (allow : (told : Files) → files ≡ Some told → MayBeGiven told made)
     (failed : HasFailed made → read_rose) where
   -- what follows of a lawful whole run
@@ -210,6 +211,7 @@ module _ (laws : AreLawful) (files : Option Files) (asked : Option Options) (wit
         accounted = by_run IsMessageAccount accounted_whole;
         invalid_exactly = by_run IsInvalidExactly invalid_whole;
         tallied = by_run IsTallied tallied_whole;
+        one_answer = by_run IsOnlyAnswer (λ r lawful run. one_whole r lawful run ones);
         causes = causes_of whole is rose;
         complete = complete_of whole is rose;
       }
@@ -217,7 +219,7 @@ module _ (laws : AreLawful) (files : Option Files) (asked : Option Options) (wit
 -- over a library and a sink whose reads and writes are lawful
 module _ {L S : Type 0} (files : L → Option Files) (faults : L → ℕ) (reads : L → List ℕ → ℕ → Got → L → Type 0) (lawful : (before : L) (name : List ℕ) (limit : ℕ) (g : Got) (after : L) → reads before name limit g after → IsLawfulRead (files before) (faults before) name limit g (files after) (faults after))
     (written : S → Option (List ℕ)) (write_faults : S → ℕ) (writes : S → List ℕ → Wrote → S → Type 0) (writes_lawfully : (before : S) (piece : List ℕ) (wrote : Wrote) (after : S) → writes before piece wrote after → IsLawfulWrite (written before) (write_faults before) piece wrote (written after) (write_faults after))
-    (laws : AreLawful) where
+    (laws : AreLawful) (ones : AreOne) where
   pub theorem_holds : (asked : Option Options) (library library' : L) (sink sink' : S) (done : Done) → IfSome asked IsWithin → IsAnswered reads writes asked library library' sink sink' done
       → IsTheorem (files library) asked (Rose (faults library) (faults library')) (Rose (write_faults sink) (write_faults sink')) (written sink) (written sink') done
   theorem_holds asked library library' sink sink' done within answered =
@@ -225,7 +227,7 @@ module _ {L S : Type 0} (files : L → Option Files) (faults : L → ℕ) (reads
       elim answered.ended [
         | inl untold ↦ subst P (sym untold.done_is) (untold_theorem (files library) asked (Rose (faults library) (faults library')) (Rose (write_faults sink) (write_faults sink')) (written sink) (written sink') (ap written untold.untouched))
         | inr told ↦ subst P (sym told.done_is)
-            (told_theorem laws (files library) asked within (Rose (faults library) (faults library')) (Rose (write_faults sink) (write_faults sink')) (written sink) (written sink') (write_faults sink) (write_faults sink') answered.made told.answer told.right
+            (told_theorem laws ones (files library) asked within (Rose (faults library) (faults library')) (Rose (write_faults sink) (write_faults sink')) (written sink) (written sink') (write_faults sink) (write_faults sink') answered.made told.answer told.right
             (λ files_told tells. all_read files faults reads lawful files_told answered.made library library' answered.are_made tells)
             (failed_rose files faults reads lawful answered.made library library' answered.are_made)
             told.whole (lines_written written write_faults writes writes_lawfully sink (lines_of told.answer) told.whole sink' told.text) (λ rose. rose))

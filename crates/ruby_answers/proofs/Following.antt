@@ -1,6 +1,11 @@
 -- Lines that are put in several parts, one after the other.
-use Rattle.std.proofs.Common.{◌≡◌, ℕ, Bool, true, false, List, [], ◌++◌, if◌then◌else◌, refl, subst, sym, true≢false}
+use Rattle.std.proofs.Common.{◌≡◌, ℕ, Bool, true, false, Option, None, Some, List, [], ◌++◌, if◌then◌else◌, refl, subst, sym, true≢false}
 use Rattle.ruby_outside.specs.declared.sink.Wrote.{Wrote}
+use Rattle.run_journal.specs.declared.entry.Entry.{Entry}
+use Rattle.cycle_order.specs.Prelude.{ordered}
+use Rattle.ruby_options.specs.declared.options.Order.{Order}
+use Rattle.ruby_options.specs.declared.options.Order.TheVariants.{Cycle, Journal}
+use Rattle.ruby_answers.specs.Prelude.{in_text_order, reordered}
 use Rattle.trace_print.specs.Prelude.{AreLinesPut, all_put}
 use Rattle.trace_print.proofs.Listing.{lines_on, lines_stopped}
 
@@ -29,3 +34,12 @@ untraced false lines e = refl
 pub traced : (trace : Bool) (lines : List (List ℕ)) → trace ≡ true → lines ≡ (if trace then lines else [])
 traced true lines e = refl
 traced false lines e = absurd (true≢false (sym e))
+
+-- a journal in the order of its run's text
+pub own_order : (o : Order) (journal : List Entry) → reordered o journal ≡ None → journal ≡ in_text_order o journal
+own_order Journal journal is = refl
+own_order Cycle journal is = absurd (cc is)
+
+pub other_order : (o : Order) (journal other : List Entry) → reordered o journal ≡ Some other → other ≡ in_text_order o journal
+other_order Journal journal other is = absurd (cc is)
+other_order Cycle journal other is = let same : ordered journal ≡ other = cc is in sym same

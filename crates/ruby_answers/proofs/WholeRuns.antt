@@ -12,7 +12,8 @@ use Rattle.protocol_meaning.proofs.Settings.{is_setting_of_one}
 use Rattle.protocol_runs.proofs.Driver.{IsDriver}
 use Rattle.protocol_runs.proofs.Lawful.{accounted, adds_up, invalid_exactly, wakes_once}
 use Rattle.protocol_meaning.specs.declared.record.RunRecord.{RunRecord}
-use Rattle.ruby_answers.specs.Prelude.{IsAccountBy, IsInvalidExactly, IsMessageAccount, IsTallied, IsWokenOnce, IsSoBy, IsWholeRun, OfDrivers, is_tested, tester_of}
+use Rattle.one_answer.specs.Prelude.{IsOneAnswer}
+use Rattle.ruby_answers.specs.Prelude.{IsAccountBy, IsInvalidExactly, IsMessageAccount, IsOnlyAnswer, IsTallied, IsWokenOnce, IsSoBy, IsWholeRun, OfDrivers, is_tested, tester_of}
 
 -- the laws of runs hold of a record's run where its topology fits its protocol and its bound on cycles is that of all runs
 pub record IsLawfulRun (r : RunRecord) : Type 0 where
@@ -29,6 +30,14 @@ tester_is = record { lawful = tester_lawful; lasting = λ d seats now. refl }
 
 pub plain_is : IsDriver plain_drive plain_needs one_seat
 plain_is = record { lawful = plain_lawful; lasting = λ d seats now. refl }
+
+-- the law of records, by a driver
+abbrev pub OneBy : {D : Type 0} → (D → List Seat → ℕ → Drive D) → Type 0
+OneBy {D} drive = (driver : D) (r : RunRecord) → IsSetting one_seat (setting_in drive driver r) → IsWholeRunBy drive driver r → IsOneAnswer drive driver r
+
+pub record AreOne : Type 0 where
+  pub tested : OneBy tester_drive
+  pub untested : OneBy plain_drive
 
 pub so_by : (P Q : OfDrivers) (b : Bool) (o : Options) (t : Topology)
     → (P State tester_drive (tester_of o t) → Q State tester_drive (tester_of o t)) → (P ℕ plain_drive o.count → Q ℕ plain_drive o.count)
@@ -86,6 +95,12 @@ module _ (r : RunRecord) (lawful : IsLawfulRun r) (whole : IsWholeRun r) where
   accounted_whole =
       by_each (λ D drive driver. IsAccountBy drive driver r)
       (account_by tester_drive tester_needs tester_is (tester_of r.options r.topology) r lawful) (account_by plain_drive plain_needs plain_is r.options.count r lawful)
+
+  pub one_whole : AreOne → IsOnlyAnswer r
+  one_whole ones =
+      by_each (λ D drive driver. IsOneAnswer drive driver r)
+      (ones.tested (tester_of r.options r.topology) r (setting_is tester_drive tester_needs tester_is (tester_of r.options r.topology) r lawful))
+      (ones.untested r.options.count r (setting_is plain_drive plain_needs plain_is r.options.count r lawful))
 
   tallied_as : (b : Bool) (o : Options) (t : Topology) → IsSoBy b o t (λ D drive driver. IsTallied r) → IsTallied r
   tallied_as true o t is = is

@@ -20,6 +20,7 @@ use Rattle.ruby_options.specs.declared.options.Options.{Options}
 use Rattle.ruby_topology.specs.declared.topology.Topology.{Topology}
 use Rattle.protocol_meaning.specs.declared.record.RunRecord.{RunRecord}
 use Rattle.protocol_meaning.specs.Prelude.{IsRecordOf, rules_in}
+use Rattle.one_answer.specs.Prelude.{IsOneAnswer}
 use Rattle.ruby_answers.specs.declared.done.Answer.{Answer}
 use Rattle.ruby_answers.specs.declared.done.Answer.TheVariants.{Ran, Generated, ReadFault}
 use Rattle.ruby_answers.specs.declared.done.Done.{Done}
@@ -46,6 +47,11 @@ IsMessageAccount r = ByItsDriver r (λ D drive driver. IsAccountBy drive driver 
 -- a wake-up ended as `invalid` exactly where its scan triggered a pair without a transition, and then with that pair
 abbrev pub IsInvalidExactly : RunRecord → Type 0
 IsInvalidExactly r = ByItsDriver r (λ D drive driver. InvalidExactly (rules_in drive driver r) r.history r.journal)
+
+-- every run of the record's setting has the record's answers, whatever its workers were and in whatever order their events came; and in
+-- cycle order the record's journal is that of a run which worker 0 makes alone
+abbrev pub IsOnlyAnswer : RunRecord → Type 0
+IsOnlyAnswer r = ByItsDriver r (λ D drive driver. IsOneAnswer drive driver r)
 
 -- one tally, of the one worker, has the counts of its events
 abbrev pub IsTallied : RunRecord → Type 0
@@ -138,5 +144,6 @@ pub record IsTheorem (files : Option Files) (asked : Option Options) (read_rose 
   pub accounted : IfSome done.kept IsMessageAccount
   pub invalid_exactly : IfSome done.kept IsInvalidExactly
   pub tallied : IfSome done.kept IsTallied
+  pub one_answer : IfSome done.kept IsOnlyAnswer
   pub causes : IsCaused files asked read_rose write_rose done
   pub complete : IsComplete files asked read_rose write_rose done

@@ -1,4 +1,5 @@
--- The text of each answer, as lines. A run's are those of its journal, where it is traced, and those after it. A generated protocol's
+-- The text of each answer, as lines. A run's are those of its journal, where it is traced, in the order that is asked for, and those
+-- after it. A generated protocol's
 -- run has one line that says how large the protocol was, how many transitions fired, which state is the last, and how the run ended.
 -- A table has a line for each of its rows, and any other answer has one line. The texts are this project's own.
 use Rattle.std.specs.Prelude.{ℕ, Bool, true, false, Option, None, Some, List, [], ◌∷◌, ◌++◌, codes, count_by, decimal, flat_map, slice_get, if◌then◌else◌}
@@ -7,6 +8,9 @@ use Rattle.ruby_symbols.specs.declared.symbols.Symbols.{Symbols}
 use Rattle.run_journal.specs.declared.entry.Entry.{Entry}
 use Rattle.run_journal.specs.declared.entry.Entry.TheVariants.{Fired, Ended, Turned}
 use Rattle.run_journal.specs.declared.summary.Final.{Final}
+use Rattle.cycle_order.specs.Prelude.{ordered}
+use Rattle.ruby_options.specs.declared.options.Order.{Order}
+use Rattle.ruby_options.specs.declared.options.Order.TheVariants.{Cycle, Journal}
 use Rattle.slicc_ast.specs.declared.tree.item.Tree.{Tree}
 use Rattle.slicc_files.specs.declared.gathered.Refused.{Refused as Refusal}
 use Rattle.slicc_plan.specs.declared.row.Counts.{Counts}
@@ -19,8 +23,20 @@ use Rattle.ruby_answers.specs.declared.done.Answer.TheVariants.{Ran, Generated, 
 
 -- Runs.
 
+-- the entries of a journal in the order in which a run's text has them
+abbrev pub in_text_order : Order → List Entry → List Entry
+in_text_order Journal journal = journal
+in_text_order Cycle journal = ordered journal
+
 abbrev pub traced_lines : RunRecord → List (List ℕ)
-traced_lines r = if r.options.trace then flat_map (entry_lines (symbols_of r.plan) r.topology.names) r.journal else []
+traced_lines r =
+    if r.options.trace then flat_map (entry_lines (symbols_of r.plan) r.topology.names) (in_text_order r.options.order r.journal)
+    else []
+
+-- that order of a journal, where it is another one than its own
+abbrev pub reordered : Order → List Entry → Option (List Entry)
+reordered Journal journal = None
+reordered Cycle journal = Some (ordered journal)
 
 abbrev pub run_lines : RunRecord → List (List ℕ)
 run_lines r = traced_lines r ++ rest_lines (symbols_of r.plan) r.topology.names r.finals r.account r.verdict
@@ -87,6 +103,19 @@ lines_of (Unfit rule at_line) = unfit_line rule at_line ∷ []
 lines_of (Absent name) = line_of (codes "absent" ∷ name ∷ []) ∷ []
 lines_of (TooLarge name) = line_of (codes "too" ∷ codes "large" ∷ name ∷ []) ∷ []
 lines_of (ReadFault name) = line_of (codes "library" ∷ codes "fault" ∷ name ∷ []) ∷ []
+
+-- the journal of an answer in the order of its text, where it is another one than its own
+abbrev pub text_journal : Answer → Option (List Entry)
+text_journal (Ran r) = reordered r.options.order r.journal
+text_journal (Generated r) = None
+text_journal (Accepted counts) = None
+text_journal (Tabled trees tables) = None
+text_journal Usage = None
+text_journal (Refused refusal) = None
+text_journal (Unfit rule at_line) = None
+text_journal (Absent name) = None
+text_journal (TooLarge name) = None
+text_journal (ReadFault name) = None
 
 -- all the bytes
 abbrev pub text_of : Answer → List ℕ

@@ -5,6 +5,7 @@ ghost use Rattle.ruby_options.specs.Prelude.{IsWithin};
 ghost use Rattle.ruby_options.specs.declared.options.Command.TheVariants.{Code, Run};
 ghost use Rattle.ruby_answers.specs.declared.done.Answer.TheVariants.{Generated, Ran};
 
+use crate::maker::Maker;
 use crate::tested_runs::{plain_run, said_run};
 use crate::{Answer, generated, table_rows};
 use protocol_meaning::RunRecord;
@@ -46,14 +47,20 @@ fn generated(run: Result<RunRecord, TopoFault>) -> Result<Answer, NoMemory>
 }
 
 // The answer to a run of a protocol, by what the library gave for the topology's file.
-fn answer_got(alloc: Global, options: Options, plan: Plan, got: Got) -> Result<Answer, NoMemory>
+fn answer_got<M: Maker>(
+    alloc: Global,
+    maker: &M,
+    options: Options,
+    plan: Plan,
+    got: Got,
+) -> Result<Answer, NoMemory>
     requires within { IsWithin options }
     ensures right { IfOk result (IsRightGot options plan got) }
     ensures alone { IfOk result IsAloneAnswer }
 {
     match got {
         Got::Bytes(bytes) if bytes.len() as u64 <= FILE_LIMIT => {
-            ran(said_run(alloc, plan, bytes.as_slice(), options))
+            ran(said_run(alloc, maker, plan, bytes.as_slice(), options))
         }
         Got::Bytes(_) => Ok(Answer::TooLarge(options.topology)),
         Got::TooLarge => Ok(Answer::TooLarge(options.topology)),
@@ -64,8 +71,9 @@ fn answer_got(alloc: Global, options: Options, plan: Plan, got: Got) -> Result<A
 }
 
 // The answer to a run of a protocol over the topology's file, which is read.
-fn answer_run<L: Library>(
+fn answer_run<M: Maker, L: Library>(
     alloc: Global,
+    maker: &M,
     options: Options,
     plan: Plan,
     library: &mut L,
@@ -78,7 +86,7 @@ fn answer_run<L: Library>(
 {
     let name = str::from_utf8(options.topology.as_slice()).unwrap();
     let got = library.read(name, FILE_LIMIT);
-    answer_got(alloc, options, plan, got)
+    answer_got(alloc, maker, options, plan, got)
 }
 
 // The rows of a protocol's tables.
@@ -91,8 +99,9 @@ fn table(alloc: Global, plan: Plan) -> Result<Answer, NoMemory>
 }
 
 // The answer to the plan of a protocol.
-fn answer_plan<L: Library>(
+fn answer_plan<M: Maker, L: Library>(
     alloc: Global,
+    maker: &M,
     options: Options,
     plan: Plan,
     library: &mut L,
@@ -104,18 +113,19 @@ fn answer_plan<L: Library>(
     ensures alone { IfOk result IsAloneAnswer }
 {
     match options.command {
-        Command::Run => answer_run(alloc, options, plan, library),
-        Command::Plain => ran(plain_run(alloc, plan, options)),
+        Command::Run => answer_run(alloc, maker, options, plan, library),
+        Command::Plain => ran(plain_run(alloc, maker, plan, options)),
         Command::Check => Ok(Answer::Accepted(counts(&plan))),
         Command::Table => table(alloc, plan),
-        Command::Gen => generated(plain_run(alloc, plan, options)),
+        Command::Gen => generated(plain_run(alloc, maker, plan, options)),
         Command::Code => unreachable!(),
     }
 }
 
 // The answer to what the protocol's files come to.
-fn answer_front<L: Library>(
+fn answer_front<M: Maker, L: Library>(
     alloc: Global,
+    maker: &M,
     options: Options,
     found: Front,
     library: &mut L,
@@ -127,7 +137,7 @@ fn answer_front<L: Library>(
     ensures alone { IfOk result IsAloneAnswer }
 {
     match found {
-        Front::Plan(plan) => answer_plan(alloc, options, plan, library),
+        Front::Plan(plan) => answer_plan(alloc, maker, options, plan, library),
         Front::Refused(refused) => Ok(Answer::Refused(refused)),
         Front::Absent(name) => Ok(Answer::Absent(name)),
         Front::TooLarge(name) => Ok(Answer::TooLarge(name)),
@@ -137,8 +147,9 @@ fn answer_front<L: Library>(
 }
 
 // The answer to options that ask for a protocol of a library.
-fn find_read<L: Library>(
+fn find_read<M: Maker, L: Library>(
     alloc: Global,
+    maker: &M,
     options: Options,
     library: &mut L,
 ) -> Result<Answer, NoMemory>
@@ -150,7 +161,7 @@ fn find_read<L: Library>(
     ensures alone { IfOk result IsAloneAnswer }
 {
     let found = front(alloc, library, &options.protocol);
-    answer_front(alloc, options, found, library)
+    answer_front(alloc, maker, options, found, library)
 }
 
 // The file of a generated protocol: its name and its text.
@@ -173,7 +184,7 @@ fn generated_library(alloc: Global, count: u64) -> Result<SureLibrary, NoMemory>
 }
 
 // The answer to options that ask for a generated protocol.
-fn find_generated(alloc: Global, options: Options) -> Result<Answer, NoMemory>
+fn find_generated<M: Maker>(alloc: Global, maker: &M, options: Options) -> Result<Answer, NoMemory>
     requires name { IsUtf8 options.topology }
     requires within { IsWithin options }
     requires generated { is_generated options.command ≡ true }
@@ -183,7 +194,7 @@ fn find_generated(alloc: Global, options: Options) -> Result<Answer, NoMemory>
     let name = Text::copied(alloc, generated::name().as_bytes())?;
     let mut library = generated_library(alloc, options.count)?;
     let found = front(alloc, &mut library, &name);
-    answer_front(alloc, options, found, &mut library)
+    answer_front(alloc, maker, options, found, &mut library)
 }
 
 fn is_generated(command: Command) -> bool
@@ -196,8 +207,9 @@ fn is_generated(command: Command) -> bool
 }
 
 /// The answer to options over a library, from which the protocol's files are read, and for a run over a topology's file that file.
-pub fn find_answer<L: Library>(
+pub fn find_answer<M: Maker, L: Library>(
     alloc: Global,
+    maker: &M,
     options: Options,
     library: &mut L,
 ) -> Result<Answer, NoMemory>
@@ -208,8 +220,8 @@ pub fn find_answer<L: Library>(
     ensures alone { IfOk result IsAloneAnswer }
 {
     if is_generated(options.command) {
-        find_generated(alloc, options)
+        find_generated(alloc, maker, options)
     } else {
-        find_read(alloc, options, library)
+        find_read(alloc, maker, options, library)
     }
 }

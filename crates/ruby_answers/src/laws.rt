@@ -10,8 +10,11 @@ ghost use Rattle.ruby_options.specs.Prelude.{IsWithin};
 ghost use Rattle.ruby_topology.specs.declared.topology.Topology.{Topology};
 ghost use Rattle.ruby_answers.specs.Prelude.{IsAnswered, IsAloneAnswer, IsTheorem, IsAnswer, IsRight, IsRunOver, IsSame};
 
+use one_answer::records_are_one_answer;
 use protocol_meaning::{meanings_are_lawful, plain_topologies_fit, topologies_fit};
+use random_tester::Tester;
 use ruby_outside::{Library, Sink};
+use sequencer::PlainDriver;
 
 /// At most one answer is right over given files, and to given reads, but that a run may go another way than another that begins in
 /// the same way; of runs by one worker, with options within their bounds, there is one. Over given files a run is of one protocol over
@@ -49,4 +52,6 @@ pub fn clauses_follow<L: Library, S: Sink>()
     meanings_are_lawful();
     topologies_fit();
     plain_topologies_fit();
+    records_are_one_answer::<Tester>();
+    records_are_one_answer::<PlainDriver>();
 }

@@ -1,15 +1,18 @@
 //! The lines of runs.
-ghost use Rattle.std.specs.Prelude.{◌≡◌, ◌≤◌, cond, count_by, flat_map, slice_get};
+ghost use Rattle.std.specs.Prelude.{◌≡◌, ◌≤◌, IfOk, cond, count_by, flat_map, slice_get};
 ghost use Rattle.run_journal.specs.Prelude.{entry_of};
-ghost use Rattle.ruby_answers.specs.Prelude.{final_word, generated_line, is_fired, run_lines, traced_lines};
+ghost use Rattle.ruby_answers.specs.Prelude.{final_word, generated_line, in_text_order, is_fired, reordered, run_lines, traced_lines};
 ghost use Rattle.slicc_plan.specs.Prelude.{symbols_of};
 ghost use Rattle.trace_print.specs.Prelude.{entry_lines, AreLinesPut, IsLinePut};
 
+use cycle_order::in_order;
 use protocol_meaning::RunRecord;
-use ruby_base::{Seq, Text};
+use ruby_base::{NoMemory, Seq, Text};
+use ruby_options::Order;
 use ruby_outside::Sink;
 use run_journal::{EntryRef, Journal};
 use slicc_plan::{Plan, counts};
+use std::alloc::Global;
 use trace_print::{
     RunText, Word, controller_machine, state_word, write_entry, write_rest, write_verdict,
 };
@@ -25,21 +28,45 @@ fn write_journal<S: Sink>(sink: &mut S, plan: &Plan, names: &Seq<Text>, journal:
     true
 }
 
-fn write_traced<S: Sink>(sink: &mut S, run: &RunRecord) -> bool
+/// The journal of a run in the order of its text, where it is another one than its own.
+pub(crate) fn reordered(alloc: Global, run: &RunRecord) -> Result<Option<Journal>, NoMemory>
+    ensures { IfOk result (λ o. o ≡ reordered run.now.options.order run.now.journal) }
+{
+    match run.options.order {
+        Order::Journal => Ok(None),
+        Order::Cycle => Ok(Some(in_order(alloc, &run.journal)?)),
+    }
+}
+
+// The journal that the text of a run goes over.
+fn traced_journal<'a>(run: &'a RunRecord, ordered: &'a Option<Journal>) -> &'a Journal
+    requires { ordered.now ≡ reordered run.now.options.order run.now.journal }
+    ensures { result.now ≡ in_text_order run.now.options.order run.now.journal }
+{
+    match ordered {
+        None => &run.journal,
+        Some(journal) => journal,
+    }
+}
+
+fn write_traced<S: Sink>(sink: &mut S, run: &RunRecord, ordered: &Option<Journal>) -> bool
+    requires { ordered.now ≡ reordered run.now.options.order run.now.journal }
     ensures { AreLinesPut S.writes sink.old (traced_lines run.now) result sink.new }
 {
     if !run.options.trace {
         return true;
     }
     let names = &run.topology.names;
-    write_journal(sink, &run.plan, names, &run.journal)
+    write_journal(sink, &run.plan, names, traced_journal(run, ordered))
 }
 
-/// Writes the lines of a run, up to the first that isn't written whole, and answers whether all were.
-pub(crate) fn write_run<S: Sink>(sink: &mut S, run: &RunRecord) -> bool
+/// Writes the lines of a run, up to the first that isn't written whole, and answers whether all were. Where the text has another order
+/// than the journal's own, the journal in that order is given.
+pub(crate) fn write_run<S: Sink>(sink: &mut S, run: &RunRecord, ordered: &Option<Journal>) -> bool
+    requires { ordered.now ≡ reordered run.now.options.order run.now.journal }
     ensures { AreLinesPut S.writes sink.old (run_lines run.now) result sink.new }
 {
-    if !write_traced(sink, run) {
+    if !write_traced(sink, run, ordered) {
         return false;
     }
     write_rest(

@@ -8,6 +8,7 @@ ghost use Rattle.protocol_meaning.specs.Prelude.{IsWholeRunBy, rules_in};
 ghost use Rattle.slicc_plan.specs.Prelude.{symbols_of};
 ghost use Rattle.protocol_meaning.specs.Prelude.{FitsPlan};
 
+use crate::maker::Maker;
 use protocol_meaning::{plain_topologies_fit, topologies_fit};
 use random_tester::Tester;
 use ruby_base::NoMemory;
@@ -15,13 +16,13 @@ use ruby_options::{Command, Options};
 use ruby_topology::{TopoFault, Topology, plain, read_topology};
 use ruby_world::{RunRecord, run_whole};
 use sequencer::{Driver, PlainDriver};
-use slicc_interpreter::Interpreted;
-use slicc_plan::{Plan, copy_plan};
+use slicc_plan::Plan;
 use std::alloc::Global;
 
 // A whole run by a driver that is as its constructor made it and needs one seat at most, of a protocol over a topology that fits it.
-fn run_by<D: Driver>(
+fn run_by<M: Maker, D: Driver>(
     alloc: Global,
+    maker: &M,
     plan: Plan,
     topology: Topology,
     options: Options,
@@ -37,7 +38,7 @@ fn run_by<D: Driver>(
     ensures whole { IfOk result (IsWholeRunBy D.drive driver) }
     ensures alone { IfOk result (λ r. IsAlone (rules_in D.drive driver r) r.history) }
 {
-    let protocol = Interpreted::new(copy_plan(&plan)?);
+    let protocol = maker.make(alloc, &plan)?;
     run_whole(alloc, &protocol, plan, topology, options, driver)
 }
 
@@ -51,8 +52,9 @@ fn is_tested(command: Command) -> bool
 }
 
 // A run by the random tester, which is the actor after the last controller.
-fn tested_run(
+fn tested_run<M: Maker>(
     alloc: Global,
+    maker: &M,
     plan: Plan,
     topology: Topology,
     options: Options,
@@ -72,12 +74,13 @@ fn tested_run(
         options.checks,
         options.deadlock,
     )?;
-    run_by(alloc, plan, topology, options, tester)
+    run_by(alloc, maker, plan, topology, options, tester)
 }
 
 // A run by the plain driver.
-fn untested_run(
+fn untested_run<M: Maker>(
     alloc: Global,
+    maker: &M,
     plan: Plan,
     topology: Topology,
     options: Options,
@@ -89,12 +92,13 @@ fn untested_run(
     ensures by_one_worker { IfOk result IsByOneWorker }
 {
     let driver = PlainDriver::new(options.count);
-    run_by(alloc, plan, topology, options, driver)
+    run_by(alloc, maker, plan, topology, options, driver)
 }
 
 // A run by the driver that the options ask for.
-fn run(
+fn run<M: Maker>(
     alloc: Global,
+    maker: &M,
     plan: Plan,
     topology: Topology,
     options: Options,
@@ -105,14 +109,19 @@ fn run(
     ensures by_one_worker { IfOk result IsByOneWorker }
 {
     if is_tested(options.command) {
-        tested_run(alloc, plan, topology, options)
+        tested_run(alloc, maker, plan, topology, options)
     } else {
-        untested_run(alloc, plan, topology, options)
+        untested_run(alloc, maker, plan, topology, options)
     }
 }
 
 /// A plain run of a protocol, or why there is none.
-pub(crate) fn plain_run(alloc: Global, plan: Plan, options: Options) -> Result<RunRecord, TopoFault>
+pub(crate) fn plain_run<M: Maker>(
+    alloc: Global,
+    maker: &M,
+    plan: Plan,
+    options: Options,
+) -> Result<RunRecord, TopoFault>
     requires within { IsWithin options }
     ensures ok { IfOk result (IsRunOf (plain_topologies plan) options plan) }
     ensures err { IfErr result (λ fault. ForLine fault (IsRefusedPlain (symbols_of plan))) }
@@ -121,13 +130,14 @@ pub(crate) fn plain_run(alloc: Global, plan: Plan, options: Options) -> Result<R
     plain_topologies_fit();
     let _trees = plan.trees();
     let topology = plain(alloc, &plan)?;
-    let record = run(alloc, plan, topology, options)?;
+    let record = run(alloc, maker, plan, topology, options)?;
     Ok(record)
 }
 
 /// A run of a protocol over the topology that these bytes say, or why there is none.
-pub(crate) fn said_run(
+pub(crate) fn said_run<M: Maker>(
     alloc: Global,
+    maker: &M,
     plan: Plan,
     bytes: &[u8],
     options: Options,
@@ -141,6 +151,6 @@ pub(crate) fn said_run(
     topologies_fit();
     let _trees = plan.trees();
     let topology = read_topology(alloc, bytes, &plan)?;
-    let record = run(alloc, plan, topology, options)?;
+    let record = run(alloc, maker, plan, topology, options)?;
     Ok(record)
 }

@@ -1,15 +1,18 @@
 //! The text of an answer, written to a sink.
-ghost use Rattle.std.specs.Prelude.{◌≡◌, [], ◌∷◌, codes};
+ghost use Rattle.std.specs.Prelude.{◌≡◌, [], ◌∷◌, IfOk, codes};
 ghost use Rattle.ruby_outside.specs.Prelude.{IsWritten};
-ghost use Rattle.ruby_answers.specs.Prelude.{accepted_line, lines_of, refused_line, text_of, unfit_line, usage_line};
+ghost use Rattle.ruby_answers.specs.Prelude.{accepted_line, lines_of, refused_line, text_journal, text_of, unfit_line, usage_line};
 ghost use Rattle.trace_print.specs.Prelude.{line_of, AreLinesPut, IsLinePut};
 
 use crate::Answer;
-use crate::runs::{write_generated, write_run};
+use crate::runs::{reordered, write_generated, write_run};
 use crate::tables::write_tables;
+use ruby_base::NoMemory;
 use ruby_outside::Sink;
+use run_journal::Journal;
 use slicc_front::Refused;
 use slicc_plan::Counts;
+use std::alloc::Global;
 use trace_print::{Word, write_line};
 
 fn write_accepted<S: Sink>(sink: &mut S, counts: Counts) -> bool
@@ -85,11 +88,22 @@ fn write_named_by_two<S: Sink>(sink: &mut S, first: &[u8], second: &[u8], name: 
     write_line(sink, first, &[Word::Bytes(second), Word::Bytes(name)])
 }
 
-fn write_lines<S: Sink>(sink: &mut S, answer: &Answer) -> bool
+/// The journal of an answer in the order of its text, where it is another one than its own: what `write_answer` wants beside the answer.
+pub fn text_journal(alloc: Global, answer: &Answer) -> Result<Option<Journal>, NoMemory>
+    ensures { IfOk result (λ o. o ≡ text_journal answer.now) }
+{
+    match answer {
+        Answer::Ran(record) => reordered(alloc, record),
+        _ => Ok(None),
+    }
+}
+
+fn write_lines<S: Sink>(sink: &mut S, answer: &Answer, ordered: &Option<Journal>) -> bool
+    requires { ordered.now ≡ text_journal answer.now }
     ensures { AreLinesPut S.writes sink.old (lines_of answer.now) result sink.new }
 {
     match answer {
-        Answer::Ran(record) => write_run(sink, record),
+        Answer::Ran(record) => write_run(sink, record, ordered),
         Answer::Generated(record) => write_generated(sink, record),
         Answer::Accepted(counts) => write_accepted(sink, *counts),
         Answer::Tabled(plan, tables) => write_tables(sink, plan, tables.as_slice()),
@@ -103,10 +117,12 @@ fn write_lines<S: Sink>(sink: &mut S, answer: &Answer) -> bool
 }
 
 /// Writes the text of an answer, line by line, and answers whether it was written whole. It writes nothing after a line that wasn't, of
-/// which a beginning is written. It takes no memory.
-pub fn write_answer<S: Sink>(sink: &mut S, answer: &Answer) -> bool
+/// which a beginning is written. It takes no memory: where a run's text has another order than its journal's own, the journal in that
+/// order is given, as `text_journal` answers it.
+pub fn write_answer<S: Sink>(sink: &mut S, answer: &Answer, ordered: &Option<Journal>) -> bool
+    requires { ordered.now ≡ text_journal answer.now }
     ensures lines { AreLinesPut S.writes sink.old (lines_of answer.now) result sink.new }
     ensures written { IsWritten (S.written sink.old) (S.faults sink.old) (text_of answer.now) result (S.written sink.new) (S.faults sink.new) }
 {
-    write_lines(sink, answer)
+    write_lines(sink, answer, ordered)
 }

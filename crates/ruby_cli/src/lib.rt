@@ -6,8 +6,10 @@ mod program;
 mod top;
 
 pub use program::ruby;
-pub use ruby_answers::{Answer, Done, answers_are_one, clauses_follow, exit_code};
+pub use ruby_answers::{
+    Answer, Done, Maker, WalkMaker, answers_are_one, clauses_follow, exit_code,
+};
 pub use ruby_options::{Command, Options};
 pub use slicc_front::Refused;
 pub use slicc_plan::Counts;
-pub use top::ruby_alone;
+pub use top::{alone_by, ruby_alone};

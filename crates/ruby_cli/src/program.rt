@@ -1,7 +1,7 @@
 // The top call over the words of a command line.
 ghost use Rattle.std.specs.Prelude.{IfSome, map, string_bytes};
 ghost use Rattle.ruby_outside.specs.Prelude.{Rose};
-ghost use Rattle.ruby_answers.specs.Prelude.{IsAnswered, IsUsageAnswered, IsWokenOnce, IsMessageAccount, IsInvalidExactly, IsTallied, IsAsAsked, IsAsWritten, IsCaused, IsComplete, IsByOneWorker, IsWholeRun, asked_by};
+ghost use Rattle.ruby_answers.specs.Prelude.{IsAnswered, IsUsageAnswered, IsWokenOnce, IsMessageAccount, IsInvalidExactly, IsTallied, IsOnlyAnswer, IsAsAsked, IsAsWritten, IsCaused, IsComplete, IsByOneWorker, IsWholeRun, asked_by};
 
 use crate::top::ruby_alone;
 use crate::{Answer, Done};
@@ -18,7 +18,7 @@ fn answer_usage<S: Sink>(sink: &mut S) -> Done
     ensures by_one_worker { IfSome result.kept IsByOneWorker }
 {
     let answer = Answer::Usage;
-    let whole = write_answer(sink, &answer);
+    let whole = write_answer(sink, &answer, &None);
     Done::of(answer, whole)
 }
 
@@ -62,6 +62,7 @@ pub fn ruby<R: Threads + Wait + Sync, L: Library, S: Sink, G: Gate + Sync>(
     ensures accounted { IfSome result.kept IsMessageAccount }
     ensures invalid_exactly { IfSome result.kept IsInvalidExactly }
     ensures tallied { IfSome result.kept IsTallied }
+    ensures one_answer { IfSome result.kept IsOnlyAnswer }
     ensures causes { IsCaused (L.files library.old) (asked_by (map string_bytes words.now)) (Rose (L.faults library.old) (L.faults library.new)) (Rose (S.faults sink.old) (S.faults sink.new)) result }
     ensures complete { IsComplete (L.files library.old) (asked_by (map string_bytes words.now)) (Rose (L.faults library.old) (L.faults library.new)) (Rose (S.faults sink.old) (S.faults sink.new)) result }
 

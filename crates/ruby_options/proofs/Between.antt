@@ -8,7 +8,7 @@ use Rattle.clap.proofs.WalkLemmas.{both}
 use Rattle.ruby_options.specs.declared.options.Command.{Command}
 use Rattle.ruby_options.specs.declared.options.Command.TheVariants.{Run, Plain, Check, Table, Code, Gen}
 use Rattle.ruby_options.specs.declared.tables.TheConstants.{REQUESTS, GENERATED, SEED, CHECKS, LINES, CYCLES, WORKERS, DEADLOCK, LIMIT}
-use Rattle.ruby_options.specs.Prelude.{are_in_range, count_in, counting, name_at, numbers_in_range, options_of, works_alone, Between, OptionRow, are_digits, is_number_within, number_in, number_of, number_within, option_row, trace_in, value_of, HasDefaults, IsBetween, IsWithin, WorksAlone, requests_of}
+use Rattle.ruby_options.specs.Prelude.{are_in_range, count_in, counting, name_at, numbers_in_range, options_of, works_alone, Between, OptionRow, are_digits, is_number_within, number_in, number_of, number_within, option_row, order_in, trace_in, value_of, HasDefaults, IsBetween, IsWithin, WorksAlone, requests_of}
 
 within : (b : Between) (word : Text) → is_number_within b word ≡ true → IsBetween b (value_of word)
 within b word e =
@@ -52,7 +52,7 @@ requests Gen names count e = some_within GENERATED (name_at names 0) count e
 alone : (command : Command) (found : List Row) → are_in_range command found ≡ true
     → WorksAlone command (number_of (counting command found) (option_row WORKERS))
 unfolding are_in_range
-alone command found e = go command (both (is_some (trace_in found)) _ (both (numbers_in_range found) _ e).1).1
+alone command found e = go command (both (is_some (order_in found)) _ (both (is_some (trace_in found)) _ (both (numbers_in_range found) _ e).1).1).1
   where
     go : (command : Command) → works_alone command found ≡ true → WorksAlone command (number_of (counting command found) (option_row WORKERS))
     go Run is = eqb-true _ _ is
@@ -63,7 +63,7 @@ alone command found e = go command (both (is_some (trace_in found)) _ (both (num
     go Gen is = tt
 
 generated : (names : List Text) (count : ℕ) → HasDefaults (options_of Gen names count [])
-unfolding number_of number_in trace_in
+unfolding number_of number_in order_in trace_in
 generated names count = record {
   seed = refl;
   checks = refl;
@@ -71,6 +71,7 @@ generated names count = record {
   cycles = refl;
   workers = refl;
   trace = refl;
+  order = refl;
   deadlock = refl;
   limit = refl;
 }

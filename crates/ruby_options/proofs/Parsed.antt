@@ -12,9 +12,9 @@ use Rattle.clap.specs.declared.error.kind.ErrorKind.{ErrorKind}
 use Rattle.clap.specs.declared.error.kind.ErrorKind.TheVariants.{OutOfMemory}
 use Rattle.clap.specs.declared.parser.matches.ArgMatches.{ArgMatches}
 use Rattle.ruby_options.specs.Prelude.{found_in, is_taken, named_command, ruby_command, with_option}
-use Rattle.ruby_options.specs.declared.tables.TheConstants.{NUMBERS, TRACE}
+use Rattle.ruby_options.specs.declared.tables.TheConstants.{NUMBERS, ORDER, TRACE}
 
-pub whole : with_option (fold with_option named_command (map (λ o. o.0.now) NUMBERS)) TRACE.now ≡ ruby_command
+pub whole : with_option (with_option (fold with_option named_command (map (λ o. o.0.now) NUMBERS)) TRACE.now) ORDER.now ≡ ruby_command
 unfolding ruby_command
 whole = refl
 

@@ -11,9 +11,10 @@ use Rattle.ruby_options.specs.declared.options.Command.TheVariants.{Run, Plain, 
 use Rattle.ruby_options.specs.declared.options.Options.{Options}
 use Rattle.ruby_options.specs.declared.options.OptionFault.{OptionFault}
 use Rattle.ruby_options.specs.declared.options.OptionFault.TheVariants.{Words, Range, NoMemory}
+use Rattle.ruby_options.specs.declared.options.Order.TheVariants.{Journal}
 use Rattle.ruby_options.specs.declared.tables.TheConstants.{COMMAND, COMMANDS, NAMES, NUMBERS, REQUESTS, GENERATED, SEED, CHECKS, LINES, CYCLES, WORKERS, DEADLOCK, LIMIT}
 use Rattle.ruby_options.specs.CommandLine.{found_in, is_taken, line_of}
-use Rattle.ruby_options.specs.Numbers.{are_digits, number_in, number_of, number_within, option_row, trace_in}
+use Rattle.ruby_options.specs.Numbers.{are_digits, number_in, number_of, number_within, option_row, order_in, trace_in}
 
 -- ---- the command and its names
 
@@ -79,7 +80,7 @@ unfoldable pub numbers_in_range : List Row → Bool
 numbers_in_range found = list_all (λ o. is_some (number_in found (option_row o))) NUMBERS
 
 unfoldable pub are_in_range : Command → List Row → Bool
-are_in_range command found = numbers_in_range found && (is_some (trace_in found) && works_alone command found)
+are_in_range command found = numbers_in_range found && (is_some (trace_in found) && (is_some (order_in found) && works_alone command found))
 
 abbrev pub options_of : Command → List Text → ℕ → List Row → Options
 options_of command names count found =
@@ -94,6 +95,7 @@ options_of command names count found =
       cycles = number_of found (option_row CYCLES);
       workers = number_of found (option_row WORKERS);
       trace = unwrap_or (trace_in found) true;
+      order = unwrap_or (order_in found) Journal;
       deadlock = number_of found (option_row DEADLOCK);
       limit = number_of found (option_row LIMIT);
     }

@@ -10,7 +10,7 @@ use Rattle.clap.specs.Simple.{App, matches_of, new_app, new_rule, with_rule}
 use Rattle.clap.specs.Faults.{fault_of}
 use Rattle.clap.specs.Matches.{found_of}
 use Rattle.clap.specs.declared.parser.matches.ArgMatches.{ArgMatches}
-use Rattle.ruby_options.specs.declared.tables.TheConstants.{PROGRAM, COMMAND, NAMES, NUMBERS, TRACE}
+use Rattle.ruby_options.specs.declared.tables.TheConstants.{PROGRAM, COMMAND, NAMES, NUMBERS, ORDER, TRACE}
 
 abbrev pub command_rule : Rule
 command_rule = new_rule COMMAND.now
@@ -32,7 +32,7 @@ named_command = with_rule (with_rule (new_app PROGRAM.now) command_rule) names_r
 
 -- with the options of the tables
 unfoldable pub ruby_command : App
-ruby_command = with_option (fold with_option named_command (map (λ o. o.0.now) NUMBERS)) TRACE.now
+ruby_command = with_option (with_option (fold with_option named_command (map (λ o. o.0.now) NUMBERS)) TRACE.now) ORDER.now
 
 -- the words behind the program's name
 abbrev pub line_of : List Text → List Text

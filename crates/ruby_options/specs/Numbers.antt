@@ -5,7 +5,9 @@ use Rattle.std.specs.List.{list_all}
 use Rattle.std.specs.Option.{option_map_or}
 use Rattle.std.specs.Str.{bytes_eq}
 use Rattle.clap.specs.Walk.{Row, Text, first_of, is_empty}
-use Rattle.ruby_options.specs.declared.tables.TheConstants.{TRACE}
+use Rattle.ruby_options.specs.declared.options.Order.{Order}
+use Rattle.ruby_options.specs.declared.options.Order.TheVariants.{Cycle, Journal}
+use Rattle.ruby_options.specs.declared.tables.TheConstants.{ORDER, TRACE}
 
 -- the least and the greatest of some numbers
 abbrev pub Between : Type 0
@@ -52,3 +54,12 @@ switch_of word =
 -- whether a run is traced, or none where the option's word is neither `on` nor `off`
 unfoldable pub trace_in : List Row → Option Bool
 trace_in found = option_map_or switch_of (first_of TRACE.now found) (Some true)
+
+-- the order that a word names
+abbrev pub order_named : Text → Option Order
+order_named word =
+    if bytes_eq word (codes "journal") then Some Journal else (if bytes_eq word (codes "cycle") then Some Cycle else None)
+
+-- the order of a run's text, or none where the option's word is neither `journal` nor `cycle`
+unfoldable pub order_in : List Row → Option Order
+order_in found = option_map_or order_named (first_of ORDER.now found) (Some Journal)

@@ -4,6 +4,7 @@ use Rattle.std.specs.Prelude.{◌≡◌, ◌≤◌, ℕ, true}
 use Rattle.ruby_options.specs.declared.options.Command.{Command}
 use Rattle.ruby_options.specs.declared.options.Command.TheVariants.{Run, Plain, Gen}
 use Rattle.ruby_options.specs.declared.options.Options.{Options}
+use Rattle.ruby_options.specs.declared.options.Order.TheVariants.{Journal}
 use Rattle.ruby_options.specs.declared.tables.TheConstants.{REQUESTS, GENERATED, SEED, CHECKS, LINES, CYCLES, WORKERS, DEADLOCK, LIMIT}
 use Rattle.ruby_options.specs.Numbers.{Between}
 
@@ -28,6 +29,7 @@ pub record HasDefaults (o : Options) : Type 0 where
   pub cycles : o.cycles ≡ CYCLES.2
   pub workers : o.workers ≡ WORKERS.2
   pub trace : o.trace ≡ true
+  pub order : o.order ≡ Journal
   pub deadlock : o.deadlock ≡ DEADLOCK.2
   pub limit : o.limit ≡ LIMIT.2
 

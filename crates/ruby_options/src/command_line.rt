@@ -5,7 +5,7 @@ ghost use Rattle.clap.specs.Simple.{app_of};
 ghost use Rattle.clap.specs.Walk.{rows_of};
 ghost use Rattle.ruby_options.specs.Prelude.{found_in, is_taken, line_of, named_command, ruby_command, with_option};
 
-use crate::{COMMAND, NAMES, NUMBERS, NoMemory, NumberOption, OptionFault, PROGRAM, TRACE};
+use crate::{COMMAND, NAMES, NUMBERS, NoMemory, NumberOption, ORDER, OptionFault, PROGRAM, TRACE};
 use clap::error::ErrorKind;
 use clap::{Arg, ArgMatches};
 use std::alloc::Global;
@@ -50,7 +50,8 @@ fn ruby_command<'a>(alloc: Global) -> Result<clap::Command<'a>, NoMemory>
 {
     let command = named_command(alloc)?;
     let command = with_numbers(alloc, command, &NUMBERS)?;
-    with_option(alloc, command, TRACE)
+    let command = with_option(alloc, command, TRACE)?;
+    with_option(alloc, command, ORDER)
 }
 
 /// The line of the words, with the program's name before them.

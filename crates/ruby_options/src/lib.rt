@@ -11,10 +11,10 @@ mod reading;
 mod tables;
 
 pub use arguments::words;
-pub use options::{Command, OptionFault, Options};
+pub use options::{Command, OptionFault, Options, Order};
 pub use reading::read;
 pub use ruby_base::{NoMemory, Text};
 pub use tables::{
     Bounds, CHECKS, COMMAND, COMMANDS, CYCLES, CommandRow, DEADLOCK, GENERATED, LIMIT, LINES,
-    NAMES, NUMBERS, NumberOption, PROGRAM, REQUESTS, SEED, TRACE, WORKERS,
+    NAMES, NUMBERS, NumberOption, ORDER, PROGRAM, REQUESTS, SEED, TRACE, WORKERS,
 };

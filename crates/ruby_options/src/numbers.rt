@@ -2,9 +2,9 @@
 ghost use Rattle.std.specs.Prelude.{◌≡◌, ◌≤◌, ◌<◌, IfSome, IfNone, IsTrue, option_map};
 ghost use Rattle.std.specs.List.{list_all};
 ghost use Rattle.clap.specs.Walk.{first_of};
-ghost use Rattle.ruby_options.specs.Prelude.{rows_given, are_digits, is_digit, number_in, number_of, number_within, switch_of, trace_in, value_of};
+ghost use Rattle.ruby_options.specs.Prelude.{rows_given, are_digits, is_digit, number_in, number_of, number_within, order_in, order_named, switch_of, trace_in, value_of};
 
-use crate::{Bounds, NumberOption, TRACE};
+use crate::{Bounds, NumberOption, ORDER, Order, TRACE};
 use clap::ArgMatches;
 
 // More digits than this are no number.
@@ -113,5 +113,30 @@ pub(crate) fn trace_in(given: Option<&ArgMatches<'_>>) -> Option<bool>
     match word_given(given, TRACE) {
         None => Some(true),
         Some(word) => switch_of(word),
+    }
+}
+
+// The order that a word names.
+fn order_named(word: &str) -> Option<Order>
+    ensures { result ≡ order_named word.now }
+{
+    if word.as_bytes() == b"journal".as_slice() {
+        Some(Order::Journal)
+    } else if word.as_bytes() == b"cycle".as_slice() {
+        Some(Order::Cycle)
+    } else {
+        None
+    }
+}
+
+/// The order of a run's text: that of the journal, where nothing else is given. It is none where the word given is neither `journal` nor
+/// `cycle`.
+#[tactic(auto, unfolding(crate::specs::Numbers::order_in))]
+pub(crate) fn order_in(given: Option<&ArgMatches<'_>>) -> Option<Order>
+    ensures { result ≡ order_in (rows_given given.entry) }
+{
+    match word_given(given, ORDER) {
+        None => Some(Order::Journal),
+        Some(word) => order_named(word),
     }
 }

@@ -17,6 +17,15 @@ pub enum Command {
     Gen,
 }
 
+/// In which order the text of a run has the entries of its journal.
+#[derive(Clone, Copy)]
+pub enum Order {
+    /// In that of the journal.
+    Journal,
+    /// Between two turns by increasing controllers, each controller's in their order.
+    Cycle,
+}
+
 /// What the words of a command line ask for.
 #[derive(Drop)]
 pub struct Options {
@@ -40,6 +49,8 @@ pub struct Options {
     pub workers: u32,
     /// Whether a run's text has its journal.
     pub trace: bool,
+    /// In which order it has it.
+    pub order: Order,
     /// How many cycles the random tester lets a request wait before it is a deadlock, 1 to 10^12.
     pub deadlock: u64,
     /// How many transitions a controller may fire in a cycle, 1 to 1,000.

@@ -3,13 +3,13 @@ ghost use Rattle.std.specs.Prelude.{◌≡◌, IfOk, IsUtf8, is_some, map, strin
 ghost use Rattle.std.specs.List.{list_all};
 ghost use Rattle.clap.specs.Matches.{found_of};
 ghost use Rattle.clap.specs.Walk.{rows_of};
-ghost use Rattle.ruby_options.specs.Prelude.{IsRead, are_in_range, asked, asked_of, counting, has_no_workers, numbers_in_range, options_of, word_found, works_alone, rows_given, number_in, number_of, option_row, trace_in, IsWithin};
+ghost use Rattle.ruby_options.specs.Prelude.{IsRead, are_in_range, asked, asked_of, counting, has_no_workers, numbers_in_range, options_of, word_found, works_alone, rows_given, number_in, number_of, option_row, order_in, trace_in, IsWithin};
 
 use crate::command_line::{found_in, line_of};
-use crate::numbers::{number_in, number_of, trace_in};
+use crate::numbers::{number_in, number_of, order_in, trace_in};
 use crate::{
     CHECKS, COMMAND, CYCLES, Command, DEADLOCK, LIMIT, LINES, NAMES, NUMBERS, NoMemory,
-    NumberOption, OptionFault, Options, SEED, Text, WORKERS,
+    NumberOption, OptionFault, Options, Order, SEED, Text, WORKERS,
 };
 use clap::ArgMatches;
 use std::alloc::Global;
@@ -52,6 +52,12 @@ fn is_trace_in_range(matches: &ArgMatches<'_>) -> bool
     trace_in(Some(matches)).is_some()
 }
 
+fn is_order_in_range(matches: &ArgMatches<'_>) -> bool
+    ensures { result ≡ is_some (order_in (rows_of (found_of matches.now))) }
+{
+    order_in(Some(matches)).is_some()
+}
+
 // Whether each option that is given has a value in its range.
 #[tactic(auto, unfolding(crate::specs::Asked::are_in_range))]
 fn are_in_range(command: Command, matches: &ArgMatches<'_>) -> bool
@@ -60,7 +66,7 @@ fn are_in_range(command: Command, matches: &ArgMatches<'_>) -> bool
     if !numbers_in_range(matches) {
         return false;
     }
-    is_trace_in_range(matches) && works_alone(command, matches)
+    is_trace_in_range(matches) && is_order_in_range(matches) && works_alone(command, matches)
 }
 
 // What counts of what is given for options: nothing for a generated protocol.
@@ -105,6 +111,7 @@ fn options(
         cycles: number_of(given, CYCLES),
         workers: workers_of(given),
         trace: trace_in(given).unwrap_or(true),
+        order: order_in(given).unwrap_or(Order::Journal),
         deadlock: number_of(given, DEADLOCK),
         limit: number_of(given, LIMIT),
     })

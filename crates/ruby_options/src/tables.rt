@@ -53,3 +53,6 @@ pub const NUMBERS: [NumberOption; 7] = [SEED, CHECKS, LINES, CYCLES, WORKERS, DE
 
 /// The option whose value is `on` or `off`. It is on where the words don't give it.
 pub const TRACE: &str = "trace";
+
+/// The option whose value is `journal` or `cycle`. It is `journal` where the words don't give it.
+pub const ORDER: &str = "order";

@@ -10,7 +10,7 @@ use crate::worlds::workers::run_steps;
 use controller_rows::{Script, plan_of, requests_of};
 use protocol_meaning::topologies_fit;
 use ruby_base::{NoMemory, Text};
-use ruby_options::{Command, Options};
+use ruby_options::{Command, Options, Order};
 use ruby_outside::{Got, Library, Sink};
 use ruby_topology::{TopoFault, Topology, read_topology};
 use ruby_world::{RunLimits, RunRecord, run_whole};
@@ -40,6 +40,7 @@ fn options_of(alloc: Global, limits: &RunLimits) -> Options
         cycles: limits.cycles,
         workers: 0,
         trace: true,
+        order: Order::Journal,
         deadlock: 1,
         limit: limits.limit,
     }

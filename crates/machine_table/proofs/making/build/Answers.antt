@@ -3,7 +3,7 @@ use Rattle.std.proofs.lemmas.Result.{err_from_is_err_and}
 use Rattle.slicc_plan.specs.Prelude.{HasFewMachines, shared_pairs}
 use Rattle.slicc_plan.proofs.Few.{few_machines}
 use Rattle.slicc_plan.proofs.NoPairShared.{none_shared}
-use Rattle.machine_table.specs.Prelude.{AreTablesOf, answer, no_memory, tables}
+use Rattle.machine_table.specs.Prelude.{AreStateCountsOf, AreTablesOf, answer, no_memory, state_count, tables}
 use Rattle.machine_table.proofs.making.build.Goals as goal
 
 pub tables_of-requires-clause-few : goal.tables_of-requires-clause-few
@@ -19,4 +19,5 @@ returns-in_err-tables_of c =
 pub returns : goal.returns
 returns c =
     tables (none_shared c.args.plan.now c.trees.ensures.accepted.of_machines)
-    (subst (λ trees. AreTablesOf trees (answer c.in_ok-tables_of.field-0)) c.trees.ensures.trees c.in_ok-tables_of.ensures)
+    (subst (λ trees. AreTablesOf trees (answer c.in_ok-tables_of.field-0)) c.trees.ensures.trees c.in_ok-tables_of.ensures.rows)
+    (subst (λ trees. AreStateCountsOf trees (state_count c.in_ok-tables_of.field-0)) c.trees.ensures.trees c.in_ok-tables_of.ensures.counts)

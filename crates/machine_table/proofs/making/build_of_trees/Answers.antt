@@ -26,7 +26,8 @@ returns-in_err-tables_of-in-None c =
 
 pub returns-in_ok-tables_of-in-None : goal.returns-in_ok-tables_of-in-None
 returns-in_ok-tables_of-in-None c =
-    tables (nothing_found (shared_pairs c.args.trees.now) c.in_ok-found.found c.in_ok-found.ensures.first c.in-None.is) c.in_ok-tables_of-in-None.ensures
+    tables (nothing_found (shared_pairs c.args.trees.now) c.in_ok-found.found c.in_ok-found.ensures.first c.in-None.is) c.in_ok-tables_of-in-None.ensures.rows
+    c.in_ok-tables_of-in-None.ensures.counts
 
 pub returns-in-Some : goal.returns-in-Some
 returns-in-Some c =

@@ -22,7 +22,7 @@ rows_in-requires c =
       few = omega (arith, ap length same, length-map c.as_slice.result.now (λ m. m.now), few.machines);
       parts = subst (All HasFewParts) (sym same) few.each;
       rows = λ n s e. ap (λ ms. rows_of_found (slice_get (map (λ m. m.now) ms) n) s e) c.as_slice.ensures
-          ∙ ap (λ ms. rows_of_found (slice_get ms n) s e) c.in_ok-machines.ensures ∙ c.in_ok-tables.ensures n s e;
+          ∙ ap (λ ms. rows_of_found (slice_get ms n) s e) c.in_ok-machines.ensures ∙ c.in_ok-tables.ensures.rows n s e;
     }
 
 pub returns : goal.returns

@@ -29,6 +29,10 @@ pub returns-clause-tallied : goal.returns-clause-tallied
 returns-clause-tallied g c =
     (c.clauses_follow.ensures _ _ _ _ _ _ (within_asked _) c.answer_words.ensures.answered).tallied
 
+pub returns-clause-one_answer : goal.returns-clause-one_answer
+returns-clause-one_answer g c =
+    (c.clauses_follow.ensures _ _ _ _ _ _ (within_asked _) c.answer_words.ensures.answered).one_answer
+
 pub returns-clause-causes : goal.returns-clause-causes
 returns-clause-causes g c =
     (c.clauses_follow.ensures _ _ _ _ _ _ (within_asked _) c.answer_words.ensures.answered).causes

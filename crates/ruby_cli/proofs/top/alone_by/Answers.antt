@@ -1,4 +1,4 @@
-use Rattle.ruby_cli.proofs.top.ruby_alone.Goals as goal
+use Rattle.ruby_cli.proofs.top.alone_by.Goals as goal
 
 pub returns-clause-record_is_a_run : goal.returns-clause-record_is_a_run
 returns-clause-record_is_a_run g c =
@@ -27,6 +27,10 @@ returns-clause-invalid_exactly g c =
 pub returns-clause-tallied : goal.returns-clause-tallied
 returns-clause-tallied g c =
     (c.clauses_follow.ensures _ _ _ _ _ _ c.requires.within c.answer_options.ensures.answered).tallied
+
+pub returns-clause-one_answer : goal.returns-clause-one_answer
+returns-clause-one_answer g c =
+    (c.clauses_follow.ensures _ _ _ _ _ _ c.requires.within c.answer_options.ensures.answered).one_answer
 
 pub returns-clause-causes : goal.returns-clause-causes
 returns-clause-causes g c =
