@@ -1,6 +1,7 @@
 -- What it is for a program to carry what a protocol means. What it declares of each machine is what the protocol gives that machine. Each
--- root is a body of its machine, and in each lawful local of a controller of that machine it does what the protocol's text says, on each
--- line and state and each references of their kinds: it has the same answer, or the same fault, and leaves the same local. Of a transition
+-- root is a body of its machine, and in each lawful local of a machine that is as the program declares that one it does what the protocol's
+-- text says, on each line and state and each references of their kinds: it has the same answer, or the same fault, and leaves the same
+-- local. A program may carry several protocols, so nothing of these is asked of the local. Of a transition
 -- that is never fired, since `z_stall` is among its actions, nothing is said but that there is a body. A root of a transition has the state
 -- before it as its last argument, and with `*` the state that it enters.
 use Rattle.std.specs.Prelude.{ℕ, ◌≡◌, ◌+◌, false, true, Option, None, Some, List, [], ◌∷◌, ◌++◌, slice_get}
@@ -12,7 +13,7 @@ use Rattle.ruby_value.specs.declared.setup.Sizes.{Sizes}
 use Rattle.ruby_value.specs.declared.value.Value.{Value}
 use Rattle.ruby_value.specs.declared.value.Value.TheVariants as value
 use Rattle.ruby_symbols.specs.declared.machine.Next.{Next}
-use Rattle.ruby_symbols.specs.declared.machine.Next.TheVariants.{To, Asked}
+use Rattle.ruby_symbols.specs.declared.machine.Next.TheVariants.{To}
 use Rattle.ruby_symbols.specs.declared.machine.PortSymbol.{PortSymbol}
 use Rattle.ruby_symbols.specs.declared.machine.TransitionSymbol.{TransitionSymbol}
 use Rattle.ruby_symbols.specs.Prelude.{get_state_arguments}
@@ -25,7 +26,7 @@ use Rattle.action_code.specs.declared.program.TableDecl.{TableDecl}
 use Rattle.action_code.specs.Prelude.{tables_of}
 use Rattle.body_meaning.specs.declared.frame.About.{About}
 use Rattle.body_meaning.specs.declared.frame.Flow.{Flow}
-use Rattle.body_meaning.specs.declared.frame.Flow.TheVariants.{WentOn, Returned, Triggered}
+use Rattle.body_meaning.specs.declared.frame.Flow.TheVariants.{Triggered}
 use Rattle.body_meaning.specs.declared.thing.Thing.{Thing}
 use Rattle.body_meaning.specs.declared.thing.Trigger.{Trigger}
 use Rattle.body_meaning.specs.Prelude.{Reading, about, arguments_for, calls_of, fired, is_stall_among, port_done, value_in}
@@ -37,11 +38,9 @@ use Rattle.body_code.specs.Prelude.{about_kinds, next_function, state_kind, tran
 use Rattle.action_gen.specs.declared.parts.Head.{Head}
 use Rattle.action_gen.specs.Heads.{heads_of}
 
--- a lawful local of a controller of the machine of this number, whatever a topology sets
-pub record InMachine (trees : List Tree) (machine : ℕ) (v : LocalView) : Type 0 where
-  pub sizes : Sizes
-  pub are_sizes : AreSizesOf trees sizes
-  pub setup : setup_of trees machine sizes ≡ Some v.machine
+-- a lawful local of a controller of the machine of this number, as the program declares it, whatever a topology sets
+pub record InMachine (p : Program) (machine : ℕ) (v : LocalView) : Type 0 where
+  pub declared : IsDeclared p (slice_get p.machines machine) v.machine
   pub lawful : IsLawful v
 
 -- both do the same in each of these locals
@@ -80,7 +79,7 @@ module _ (p : Program) (trees : List Tree) (machine : ℕ) (s : Reading) where
   tables = tables_of (slice_get p.machines machine)
 
   abbrev pub AreSame : {A : Type 0} → Acting A → Acting A → Type 0
-  AreSame one other = Same (InMachine trees machine) one other
+  AreSame one other = Same (InMachine p machine) one other
 
   -- references to lines of the tables that they are to be of
   abbrev pub AreTyped : About → Type 0

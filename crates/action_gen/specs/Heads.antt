@@ -2,19 +2,18 @@
 -- text one for each in port, one for `getState` where it is written, one for `getNextState` where a transition has `*`, and one for each
 -- written transition. And what is looked at before a transition: which action stalls, which tables are checked, and on which buffers
 -- messages are sent.
-use Rattle.std.specs.Prelude.{ℕ, ◌+◌, ◌-◌, Bool, true, false, cond, Option, None, Some, List, [], ◌∷◌, filter, filter_map, flat_map, length, map, slice_get}
+use Rattle.std.specs.Prelude.{ℕ, ◌+◌, ◌-◌, Bool, true, false, Option, None, Some, List, [], ◌∷◌, filter, filter_map, length}
 use Rattle.std.specs.List.{list_any}
 use Rattle.std.specs.Option.{option_map}
 use Rattle.ruby_value.specs.declared.setup.BufferPlace.{BufferPlace}
 use Rattle.ruby_value.specs.declared.setup.BufferPlace.TheVariants.{Local, To, From}
-use Rattle.ruby_symbols.specs.declared.machine.ActionSymbol.{ActionSymbol}
 use Rattle.ruby_symbols.specs.declared.machine.MachineSymbols.{MachineSymbols}
 use Rattle.ruby_symbols.specs.declared.machine.TransitionSymbol.{TransitionSymbol}
 use Rattle.slicc_ast.specs.declared.tree.item.Tree.{Tree}
 use Rattle.slicc_plan.specs.Prelude.{symbols_of}
 use Rattle.action_code.specs.declared.program.Program.{Program}
 use Rattle.body_meaning.specs.Actions.Pick.{Tables}
-use Rattle.body_meaning.specs.Prelude.{Reading, action_names, is_to, names_table, place_among}
+use Rattle.body_meaning.specs.Prelude.{Reading, action_names, names_table, place_among}
 use Rattle.protocol_meaning.specs.Prelude.{reading_of}
 use Rattle.body_code.specs.Prelude.{next_function, numbers_from}
 use Rattle.action_gen.specs.declared.parts.Head.{Head}

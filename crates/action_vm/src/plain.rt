@@ -5,7 +5,7 @@ ghost use Rattle.ruby_value.specs.declared.value.Value.TheVariants as value;
 ghost use Rattle.ctl_face.specs.Prelude.{LocalView};
 ghost use Rattle.acts.specs.Prelude.{DoesAs, ends, given};
 ghost use Rattle.built_in_acts.specs.Prelude.{are_equal, argument, difference, is_at_most, is_less, negation, product, sum, truth};
-ghost use Rattle.code_meaning.specs.Prelude.{multiplied, negated, opposite, subtracted, summed, tested, with_number};
+ghost use Rattle.code_meaning.specs.Prelude.{multiplied, negated, of_one_sort, opposite, subtracted, summed, tested, with_number};
 ghost use Rattle.code_frame.specs.Prelude.{Any, IsBool, IsInt, Over, Rest, SameRest, stored};
 
 use crate::frame::Next;
@@ -13,13 +13,16 @@ use acts::{BodyFault, NoMemory, Trouble, Value};
 use built_in_acts::are_equal;
 use code_frame::Frame;
 
-/// A value of its own on top.
+/// A value of its own on top. A reference has the one sort that references have there.
 pub(crate) fn push(frame: &mut Frame, v: &Value) -> Result<(), Trouble>
     ensures does { (l : LocalView) → DoesAs (λ _. frame.new.stack) (ends
-        (v.now ∷ frame.old.stack)) result l l }
+        (of_one_sort v.now ∷ frame.old.stack)) result l l }
     ensures rest { OnOk result (SameRest frame.old frame.new) }
 {
-    frame.push_copied(v)?;
+    match v {
+        Value::Tbe(r) => frame.push(Value::Entry(*r))?,
+        other => frame.push_copied(other)?,
+    }
     Ok(())
 }
 

@@ -11,7 +11,7 @@ use Rattle.ruby_value.specs.Prelude.{default_value, equal_kinds, has_kind, has_k
 use Rattle.built_in_acts.specs.Prelude.{argument}
 use Rattle.action_code.specs.declared.program.TableDecl.{TableDecl}
 use Rattle.action_code.specs.Prelude.{bare, can_push, kind_of, kind_of_lines, kind_of_table, structure_of, with_given}
-use Rattle.code_meaning.specs.Prelude.{are_of_kinds, has_lines_of, is_line_of, is_of_kind}
+use Rattle.code_meaning.specs.Prelude.{are_of_kinds, has_lines_of, is_line_of, is_of_kind, of_one_sort}
 
 -- Kinds.
 
@@ -129,12 +129,12 @@ module _ (tables : List TableDecl) where
   pushed_entry n r None found h = absurd (cc h)
   pushed_entry n r (Some t) found h = table_entry t (Some r) ∙ line_there t r found h
 
-  pushed_tbe : (n : ℕ) (r : Ref) (o : Option TableDecl) → slice_get tables r.table ≡ o → (is_some o && nat_lt r.line line_limit) ≡ true → is_of_kind tables (kind_of_lines tables o (kind.Tbe n)) (value.Tbe (Some r)) ≡ true
+  pushed_tbe : (n : ℕ) (r : Ref) (o : Option TableDecl) → slice_get tables r.table ≡ o → (is_some o && nat_lt r.line line_limit) ≡ true → is_of_kind tables (kind_of_lines tables o (kind.Tbe n)) (value.Entry (Some r)) ≡ true
   pushed_tbe n r None found h = absurd (cc h)
-  pushed_tbe n r (Some t) found h = table_tbe t (Some r) ∙ line_there t r found h
+  pushed_tbe n r (Some t) found h = table_entry t (Some r) ∙ line_there t r found h
 
   -- what is pushed has the kind that verification gives it
-  pub pushed_is : (v : Value) (n : ℕ) → can_push tables v ≡ true → is_of_kind tables (kind_of tables v n) v ≡ true
+  pub pushed_is : (v : Value) (n : ℕ) → can_push tables v ≡ true → is_of_kind tables (kind_of tables v n) (of_one_sort v) ≡ true
   pushed_is (value.Bool x) n h = refl
   pushed_is (value.Int x) n h = refl
   pushed_is (value.Enum x y) n h = eq-eqb x x refl

@@ -32,7 +32,7 @@ use Rattle.action_code.specs.declared.shape.Shape.{Shape}
 use Rattle.action_code.specs.Prelude.{KeepsRules, Way, answered, bare, buffer_at, call_sign, can_push, continues, field_of, field_through, is_port, kind_of, local_kind, machine_of, operands_fit, operation_sign, operations, result_operand, shape_after, sign, structure_of, tables_of, target, wanted, with_given, with_message}
 use Rattle.code_meaning.specs.declared.code_end.CodeEnd.{CodeEnd}
 use Rattle.code_meaning.specs.declared.code_end.CodeEnd.TheVariants as code_end
-use Rattle.code_meaning.specs.Prelude.{Bodies, Held, IsDeclared, IsTyped, On, Over, Step, To, are_messages, are_of_kinds, argument_count, arguments_on, arity, called, code_step, given_back, innermost, is_end_of, is_of_kind, kept_of, kinds_of, on_stack, read_of, returned, tested, with_number}
+use Rattle.code_meaning.specs.Prelude.{Bodies, Held, IsDeclared, IsTyped, On, Over, Step, To, are_messages, are_of_kinds, argument_count, arguments_on, arity, called, code_step, given_back, innermost, is_end_of, is_of_kind, kept_of, kinds_of, of_one_sort, on_stack, read_of, returned, tested, with_number}
 use Rattle.code_meaning.proofs.Fields.{buffer_setup, field_gives, front_gives}
 use Rattle.code_meaning.proofs.Gives.{Gives, any_gives, and_gives, ends_gives, found_gives, given_gives, stops_gives, then_gives}
 use Rattle.code_meaning.proofs.OfKind.{at_kinds, bare_is, defaults_are, drop_kinds, given_kinds, more_kinds, equal_is, pushed_is, reverse_kinds, set_kinds}
@@ -135,7 +135,7 @@ module _ (p : Program) (body : ℕ) (c : Code) (setup : MachineSetup) (declared 
     stack_leads i ks q goes gives = then_gives setup gives (λ vs fits. ends_gives setup (goes, with_stack ks vs fits))
 
     push_leads : (v : Value) (n : ℕ) → can_push tables v ≡ true → Leads (instr.Push v n)
-    push_leads v n can = stack_leads (instr.Push v n) _ _ refl (ends_gives setup (put 0 (kind_of tables v n) v (pushed_is tables v n can)))
+    push_leads v n can = stack_leads (instr.Push v n) _ _ refl (ends_gives setup (put 0 (kind_of tables v n) (of_one_sort v) (pushed_is tables v n can)))
 
     load_leads : (n : ℕ) → is_some (local_kind c n) ≡ true → Leads (instr.Load n)
     load_leads n there = stack_leads (instr.Load n) _ _ refl (ends_gives setup (put_given 0 (local_kind c n) (argument h.locals n) there each))

@@ -1,6 +1,7 @@
 -- What each instruction does, as acts. An operand that isn't there counts as false, as built-in calls have it of an argument, and so
 -- does a local; a field of a message that isn't there is the fault `reference`. Of a program that fits neither comes. A `trigger` is
--- about the line of its address. Where a body stops with a fault that bodies can't stop with by themselves, it ends with it.
+-- about the line of its address. A reference that is pushed has the one sort that references have in bodies. Where a body stops with a
+-- fault that bodies can't stop with by themselves, it ends with it.
 use Rattle.std.specs.Prelude.{ℕ, ◌-◌, ◌*◌, ℤ, Bool, true, false, Option, None, Some, List, [], ◌∷◌, Result, Ok, Err, drop, length, map, min, reverse, slice_get, slice_set, take, unwrap_or, if◌then◌else◌}
 use Rattle.std.specs.Option.{option_map}
 use Rattle.ruby_value.specs.declared.fault.Fault.{Fault}
@@ -44,6 +45,11 @@ multiplied stack = with_number 2 stack (product (argument stack 1) (argument sta
 
 abbrev pub negated : List Value → Result (List Value) BodyFault
 negated stack = with_number 1 stack (negation (argument stack 0))
+
+-- a value as it is on the stack, where references have one sort
+abbrev pub of_one_sort : Value → Value
+of_one_sort (value.Tbe r) = value.Entry r
+of_one_sort v = v
 
 abbrev pub opposite : Bool → Bool
 opposite true = false
@@ -144,7 +150,7 @@ Bodies = ℕ → List Value → Acting CodeEnd
 
 -- of a body of a program, where calls do this
 abbrev pub code_step : Program → Code → Bodies → Instr → Held → Acting Step
-code_step p c calls (instr.Push v structure) h = on_stack h (ends (v ∷ h.stack))
+code_step p c calls (instr.Push v structure) h = on_stack h (ends (of_one_sort v ∷ h.stack))
 code_step p c calls (instr.Load n) h = on_stack h (ends (argument h.locals n ∷ h.stack))
 code_step p c calls (instr.Store n) h =
     ends (On (record h { stack = drop 1 h.stack; locals = slice_set h.locals n (argument h.stack 0) }))

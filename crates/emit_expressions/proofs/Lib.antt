@@ -1,1 +1,9 @@
 pub mod Adding
+pub mod Forks
+pub mod Rows
+pub mod Forms
+pub mod Arms
+pub mod Each
+pub mod Joins
+pub mod ArgumentSteps
+pub mod SpotForms

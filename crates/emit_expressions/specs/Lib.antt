@@ -1,2 +1,4 @@
 pub mod Writes
+pub mod Parts
+pub mod Places
 pub mod Prelude

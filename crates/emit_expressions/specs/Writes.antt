@@ -8,6 +8,10 @@ use Rattle.body_code.specs.Prelude.{Piece, Segment}
 abbrev pub Adds : Segment → (before after : List Instr) → Type 0
 Adds code before after = after ≡ before ++ code (length before)
 
-abbrev pub Writes : Piece → Result Left NoMemory → (before after : List Instr) → Type 0
+unfoldable pub AddsIfOk : {A : Type 0} → Segment → Result A NoMemory → (before after : List Instr) → Type 0
+AddsIfOk code (Ok a) before after = Adds code before after
+AddsIfOk code (Err none) before after = Unit {0}
+
+unfoldable pub Writes : Piece → Result Left NoMemory → (before after : List Instr) → Type 0
 Writes p (Ok l) before after = (l ≡ p.left) × Adds p.code before after
 Writes p (Err none) before after = Unit {0}

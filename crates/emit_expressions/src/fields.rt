@@ -1,4 +1,6 @@
 // Fields in code.
+#![tactic(auto, using(crate::proofs::Adding::adds_two), unfolding(crate::specs::Writes::Writes))]
+
 ghost use Rattle.std.specs.Prelude.{◌≡◌, ◌+◌};
 ghost use Rattle.body_meaning.specs.Prelude.{reading};
 ghost use Rattle.body_code.specs.Prelude.{field_by, field_in, field_numbered, field_read, field_through};

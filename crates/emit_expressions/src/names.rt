@@ -1,4 +1,6 @@
 // What names are in code.
+#![tactic(auto, using(crate::proofs::Adding::adds_two), unfolding(crate::specs::Writes::Writes))]
+
 ghost use Rattle.std.specs.Prelude.{◌≡◌};
 ghost use Rattle.body_meaning.specs.Prelude.{reading};
 ghost use Rattle.body_code.specs.Prelude.{declared_read, home_of, home_read, member_pushed, name_read, port_read, read_everywhere, value_read};

@@ -285,7 +285,7 @@ module _ (trees : List Tree) (accepted : IsAccepted trees) where
                   subst (λ (x : Meaning). IsOfKind trees m (kind_or_bool (built_in_kind f.meaning)) x) means (some_kind (built_in_kind f.meaning) kinded),
                 )
 
-    of_type : HasNumberedTypes (symbols_of trees) → (t : KnownType) → IsIn m t → (n : ℕ) → structure_number trees t ≡ Some n → (symbol : StructureSymbol) × (slice_get (symbols_of trees).structures n ≡ Some symbol) × HasFieldsOf trees m t symbol
+    pub of_type : HasNumberedTypes (symbols_of trees) → (t : KnownType) → IsIn m t → (n : ℕ) → structure_number trees t ≡ Some n → (symbol : StructureSymbol) × (slice_get (symbols_of trees).structures n ≡ Some symbol) × HasFieldsOf trees m t symbol
     of_type few (structured scope s) inside n number = fields_of_structure few scope s inside.0 inside.1 n number
     of_type few (built_in Request) inside n number = fields_of_request n number
     of_type few (built_in _) inside n number = absurd (cc number)

@@ -320,7 +320,7 @@ module _ (k : ℕ) (env : Environment) (h : IsTypedIn k env) where
   operands_typed_is place left (more_of-Operand operator e row) inner none =
       operands_typed_is place (joined env operator (given_at place left) (given_at (span_of e) (typed env e))) row (λ clear. operator_typed env.trees env.machine operator) none
 
-  suffix_is : (place : Span) (left : Typed) (x : Suffix) → (left.broken ≡ [] → T left.meaning) → (suffix_typed env place left x).broken ≡ [] → T (suffix_typed env place left x).meaning
+  pub suffix_is : (place : Span) (left : Typed) (x : Suffix) → (left.broken ≡ [] → T left.meaning) → (suffix_typed env place left x).broken ≡ [] → T (suffix_typed env place left x).meaning
   suffix_is place left (Field n span) inner none = field_is left.broken n left.meaning inner none
   suffix_is place left (Method' called shape row arguments span) inner none = method_typed place left called (arguments_typed env row) inner none
   suffix_is place left (Index key span) inner none = index_typed place left (given_at (span_of key) (typed env key)) inner none

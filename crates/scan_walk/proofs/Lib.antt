@@ -1,4 +1,2 @@
-pub mod Tries
-pub mod Rounds
 pub mod Stalls
 pub mod Short

@@ -1,3 +1,2 @@
-pub mod TriesAs
 pub mod Room
 pub mod Prelude

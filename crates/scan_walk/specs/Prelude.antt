@@ -1,4 +1,2 @@
 -- The definitions that other files name, from one place.
 pub use Rattle.scan_walk.specs.Room.{one_short}
-pub use Rattle.scan_walk.specs.TriesAs.{IsEndOf, told}
-unfoldable pub use Rattle.scan_walk.specs.TriesAs.{TriesAs}

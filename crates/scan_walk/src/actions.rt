@@ -1,12 +1,13 @@
 // The actions of a transition, and whether it has to wait for free lines or slots.
-ghost use Rattle.std.specs.Prelude.{◌≡◌, ◌+◌, ◌<◌, [], ◌∷◌, length, MatchOption};
+ghost use Rattle.std.specs.Prelude.{◌+◌, ◌<◌, length};
 ghost use Rattle.acts.specs.Prelude.{DoesAs, itself};
-ghost use Rattle.body_meaning.specs.Prelude.{each, reading, need, send_count, action_done, buffer_short, is_among, is_short, is_stall_among, lacks_room, table_short};
+ghost use Rattle.body_meaning.specs.Prelude.{each, reading, need, send_count, action_done, buffer_short, is_short, lacks_room, table_short};
 ghost use Rattle.statement_walk.specs.Prelude.{HasFew};
 ghost use Rattle.scan_walk.specs.Prelude.{one_short};
 
 use acts::{Local, Trouble, free, slots};
 use body_meaning::{About, Scope};
+use scan_steps::split;
 use statement_walk::{Counted, action_done, has_more, is_sent_on};
 use std::alloc::Global;
 
@@ -15,13 +16,6 @@ use std::alloc::Global;
 enum Room {
     Lines,
     Slots,
-}
-
-// The first of these, and the others.
-pub(crate) fn split<X>(items: &[X]) -> Option<(&X, &[X])>
-    ensures { MatchOption result (items.now ≡ []) (λ p. items.now ≡ p.0.now ∷ p.1.now) }
-{
-    items.split_first()
 }
 
 // Does actions one after another, each about what the one before has left.
@@ -144,20 +138,4 @@ pub(crate) fn lacks_room<T: Local>(
         return Ok(true);
     }
     is_short(s, actions, Room::Slots, 0, &s.machine.buffers, local)
-}
-
-pub(crate) fn is_among(n: u16, numbers: &[u16]) -> bool
-    ensures { result ≡ is_among n numbers.now }
-{
-    numbers.contains(&n)
-}
-
-// Whether the machine's action for stalls is among these.
-pub(crate) fn is_stall_among(actions: &[u16], stall: Option<u16>) -> bool
-    ensures { result ≡ is_stall_among actions.now stall }
-{
-    match stall {
-        None => false,
-        Some(stall) => is_among(stall, actions),
-    }
 }

@@ -3,7 +3,6 @@
 #![tactic(auto)]
 
 mod actions;
-mod halt;
 mod ports;
 mod transition;
 

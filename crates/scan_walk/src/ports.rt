@@ -2,18 +2,17 @@
 ghost use Rattle.acts.specs.Prelude.{itself};
 ghost use Rattle.body_meaning.specs.Prelude.{reading, IsRoundOf, after_port, port_tried, ports_tried, scan};
 ghost use Rattle.statement_walk.specs.Prelude.{HasFew};
-ghost use Rattle.scan_walk.specs.Prelude.{IsEndOf, TriesAs};
+ghost use Rattle.scan_steps.specs.Prelude.{TriesAs};
 
-use crate::actions::split;
-use crate::halt::{Halt, told};
 use crate::transition::tried;
 use acts::{Local, NoMemory};
-use body_meaning::{Flow, Known, RoundEnd, Scope, Tried};
+use body_meaning::{Flow, RoundEnd, Scope, Tried};
 use ruby_symbols::PortSymbol;
+use scan_steps::{Halt, nothing_known, round_of, split, told};
 use statement_walk::port_done;
 use std::alloc::Global;
 
-#[tactic(auto, using(crate::proofs::Tries::tries_ends))]
+#[tactic(auto, using(scan_steps::proofs::Tries::tries_ends))]
 fn after_port<T: Local>(
     alloc: Global,
     s: Scope<'_>,
@@ -30,7 +29,6 @@ fn after_port<T: Local>(
     }
 }
 
-// What is known of a transition while a port's body is done is nothing yet.
 fn port_tried<T: Local>(
     alloc: Global,
     s: Scope<'_>,
@@ -41,12 +39,7 @@ fn port_tried<T: Local>(
     ensures { TriesAs itself (port_tried (reading s.entry) p.now) result (T.view local.old)
         (T.view local.new) }
 {
-    let nothing = Known {
-        address: None,
-        state: None,
-        event: None,
-    };
-    let flow = told(nothing, port_done(alloc, s, p, local))?;
+    let flow = told(nothing_known(), port_done(alloc, s, p, local))?;
     after_port(alloc, s, flow, local)
 }
 
@@ -67,17 +60,6 @@ fn ports_tried<T: Local>(
             Tried::Waits => ports_tried(alloc, s, parts.1, local),
             Tried::Fires(note) => Ok(Tried::Fires(note)),
         },
-    }
-}
-
-fn round_of(tried: Result<Tried, Halt>) -> Result<RoundEnd, NoMemory>
-    ensures { IsEndOf tried result }
-{
-    match tried {
-        Ok(Tried::Fires(note)) => Ok(RoundEnd::Fired(note)),
-        Ok(Tried::Waits) => Ok(RoundEnd::Idle),
-        Err(Halt::Stop(at)) => Ok(RoundEnd::Stop(at)),
-        Err(Halt::NoMemory) => Err(NoMemory),
     }
 }
 

@@ -2,38 +2,18 @@
 ghost use Rattle.std.specs.Prelude.{◌≡◌, None, find};
 ghost use Rattle.std.specs.Option.{option_copied};
 ghost use Rattle.acts.specs.Prelude.{DoesAs, itself};
-ghost use Rattle.body_meaning.specs.Prelude.{reading, about, fired, is_for, known, row_tried, try, waiting};
+ghost use Rattle.body_meaning.specs.Prelude.{reading, fired, is_for, row_tried, try};
 ghost use Rattle.statement_walk.specs.Prelude.{HasFew};
-ghost use Rattle.scan_walk.specs.Prelude.{TriesAs};
+ghost use Rattle.scan_steps.specs.Prelude.{TriesAs};
 
-use crate::actions::{actions_done, is_among, is_stall_among, lacks_room};
-use crate::halt::{Halt, told};
-use acts::{Fault, Local, Trouble, again};
-use body_meaning::{About, Known, Scope, Tried, Trigger};
+use crate::actions::{actions_done, lacks_room};
+use acts::{Fault, Local, Trouble};
+use body_meaning::{Scope, Tried, Trigger};
 use ruby_symbols::{MachineSymbols, TransitionSymbol};
 use run_journal::{FireNote, StopAt};
+use scan_steps::{Halt, about, is_among, is_stall_among, known, told, waiting};
 use statement_walk::{next_state, permission_set, state_by, state_set};
 use std::alloc::Global;
-
-fn about(t: Trigger) -> About
-    ensures { result ≡ about t }
-{
-    About {
-        address: t.address,
-        entry: t.entry,
-        tbe: t.tbe,
-    }
-}
-
-fn known(t: Trigger, state: Option<u16>) -> Known
-    ensures { result ≡ known t state }
-{
-    Known {
-        address: Some(t.address),
-        state,
-        event: Some(t.event),
-    }
-}
 
 fn is_for(state: u16, event: u16, t: &TransitionSymbol) -> bool
     ensures { result ≡ is_for state event t.now }
@@ -46,13 +26,6 @@ fn row_for(m: &MachineSymbols, state: u16, event: u16) -> Option<&TransitionSymb
     ensures { option_copied result ≡ find (is_for state event) m.now.transitions }
 {
     m.transitions.iter().find(|t| is_for(state, event, t))
-}
-
-fn waiting<T: Local>(local: &mut T) -> Result<Tried, Trouble>
-    ensures { DoesAs itself waiting result (T.view local.old) (T.view local.new) }
-{
-    again(local)?;
-    Ok(Tried::Waits)
 }
 
 fn fired<T: Local>(

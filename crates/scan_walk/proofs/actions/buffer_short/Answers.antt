@@ -1,6 +1,7 @@
 use Rattle.std.proofs.Common.{None, Some, refl, sym}
 use Rattle.body_meaning.specs.Prelude.{reading, send_count}
-use Rattle.scan_walk.proofs.Short.{none_more, none_sent, nothing_short, short_by, slots_stop, some_more}
+use Rattle.scan_steps.proofs.Sent.{none_sent}
+use Rattle.scan_walk.proofs.Short.{none_more, nothing_short, short_by, slots_stop, some_more}
 use Rattle.scan_walk.proofs.actions.buffer_short.Goals as goal
 
 pub returns-then-not-is_sent_on : goal.returns-then-not-is_sent_on

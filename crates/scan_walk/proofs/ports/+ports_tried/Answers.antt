@@ -1,6 +1,6 @@
 use Rattle.std.proofs.Common.{refl}
 use Rattle.std.proofs.lemmas.Result.{err_from_is_err_and}
-use Rattle.scan_walk.proofs.Tries.{then_halts, then_tries, tries_ends}
+use Rattle.scan_steps.proofs.Tries.{then_halts, then_tries, tries_ends}
 use Rattle.scan_walk.proofs.ports.+ports_tried.Goals as goal
 
 pub returns-in-None : goal.returns-in-None

@@ -1,6 +1,6 @@
 use Rattle.std.proofs.Common.{refl}
 use Rattle.std.proofs.lemmas.Result.{err_from_is_err_and}
-use Rattle.scan_walk.proofs.Tries.{looked_up_tries, then_halts, then_tries, told_tries_as, tries_stops}
+use Rattle.scan_steps.proofs.Tries.{looked_up_tries, then_halts, then_tries, told_tries_as, tries_stops}
 use Rattle.scan_walk.proofs.transition.tried.Goals as goal
 
 pub returns-in_err-state : goal.returns-in_err-state

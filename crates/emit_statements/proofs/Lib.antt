@@ -1,0 +1,11 @@
+pub mod Pushing
+pub mod Following
+pub mod ArmSteps
+pub mod LineSteps
+pub mod StatementForms
+pub mod ChangeSteps
+pub mod TriggerSteps
+pub mod MessageSteps
+pub mod PlainSteps
+pub mod BlockSteps
+pub mod AloneForms

@@ -1,0 +1,3 @@
+pub mod LineWrites
+pub mod StatementParts
+pub mod Prelude

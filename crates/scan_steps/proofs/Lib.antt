@@ -1,0 +1,4 @@
+pub mod Tries
+pub mod Rounds
+pub mod Stays
+pub mod Sent

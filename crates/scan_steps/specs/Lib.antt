@@ -1,0 +1,2 @@
+pub mod TriesAs
+pub mod Prelude

@@ -1,0 +1,3 @@
+-- The definitions that other files name, from one place.
+pub use Rattle.scan_steps.specs.TriesAs.{IsEndOf, scanned, told}
+unfoldable pub use Rattle.scan_steps.specs.TriesAs.{TriesAs}
