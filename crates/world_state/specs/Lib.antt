@@ -11,6 +11,7 @@ pub mod Arrivals
 pub mod Cycle
 pub mod Driving
 pub mod Requests
+pub mod Spare
 pub mod Waiting
 pub mod Turned
 pub mod Turning

@@ -42,10 +42,13 @@ pub struct Place {
     finished: bool,
     // The least cycle at which the controller must wake, or `NEVER`; or 0 where that has to be looked up in its store.
     wake: u64,
+    // One more than there is room for parcels in its store; or 0 where that has to be looked up there.
+    spare: u64,
 }
 
 impl Model for Place {
     ghost use Rattle.world_state.specs.Quiet.{IsKnown};
+    ghost use Rattle.world_state.specs.Spare.{HasSpare};
     ghost use Rattle.world_state.specs.Shown.{Place, place_code};
 
     ghost Value = { Place };
@@ -54,7 +57,7 @@ impl Model for Place {
 
     ghost view = { λ p. record { keeper = p.keeper; finished = p.finished } };
 
-    ghost invariant = { λ p. IsKnown p.wake p.finished p.keeper };
+    ghost invariant = { λ p. IsKnown p.wake p.finished p.keeper × HasSpare p.spare p.keeper };
 }
 
 // The cycle that stands for none.
@@ -109,6 +112,7 @@ impl Place {
             keeper: Keeper::World(kept),
             finished,
             wake: 0,
+            spare: 0,
         }
     }
 
@@ -171,13 +175,31 @@ impl Place {
 
     /// Makes room for so many messages and credits, or answers that there is no memory for them. Of a held controller nothing is made
     /// room for.
+    #[inline]
     pub(crate) fn room(&mut self, parcels: u32) -> Result<(), NoMemory>
         ensures same { (held : Ctl) → place_with held self.new ≡ place_with held self.old }
         ensures made { made_by self.new.keeper ≡ made_by self.old.keeper }
         ensures ok { OnOk result (HasRoom parcels self.new) }
     {
+        if u64::from(parcels) < self.spare {
+            return Ok(());
+        }
+        self.make_room(parcels)
+    }
+
+    // Makes room in the store.
+    fn make_room(&mut self, parcels: u32) -> Result<(), NoMemory>
+        ensures same { (held : Ctl) → place_with held self.new ≡ place_with held self.old }
+        ensures made { made_by self.new.keeper ≡ made_by self.old.keeper }
+        ensures ok { OnOk result (HasRoom parcels self.new) }
+    {
+        self.spare = 0;
         match &mut self.keeper {
-            Keeper::World(kept) => kept.store.room(parcels),
+            Keeper::World(kept) => {
+                kept.store.room(parcels)?;
+                self.spare = u64::from(parcels) + 1;
+                Ok(())
+            }
             Keeper::Worker(_) => Ok(()),
         }
     }
@@ -195,6 +217,7 @@ impl Place {
             → Takes other self.new }
     {
         self.wake = 0;
+        self.spare = self.spare.saturating_sub(1);
         match &mut self.keeper {
             Keeper::World(kept) => kept.store.arrive(p),
             Keeper::Worker(_) => unreachable!(),
@@ -241,6 +264,7 @@ impl Place {
         ensures is { self.new ≡ held_place worker self.old.finished }
     {
         self.wake = 0;
+        self.spare = 0;
         match mem::replace(&mut self.keeper, Keeper::Worker(worker)) {
             Keeper::World(kept) => kept,
             Keeper::Worker(_) => unreachable!(),
@@ -252,6 +276,7 @@ impl Place {
         ensures { self.new ≡ home_place kept self.old.finished }
     {
         self.wake = 0;
+        self.spare = 0;
         self.keeper = Keeper::World(kept);
     }
 

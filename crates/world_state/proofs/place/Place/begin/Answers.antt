@@ -10,4 +10,4 @@ returns-then-now-self-clause-after c =
     let le : c.args.now ≤ place.wake = omega arith in
     λ held.
     subst (λ (p : Place). place_with held p ≡ begun_at c.args.now (place_with held p)) c.self.view_is
-    (known-begun place.wake place.finished c.args.now place.keeper c.self.invariant some le held)
+    (known-begun place.wake place.finished c.args.now place.keeper c.self.invariant.0 some le held)

@@ -8,4 +8,4 @@ pub returns-then-now-self : goal.returns-then-now-self
 returns-then-now-self c =
     c.soonest.ensures
     ∙ subst (λ (p : Place). soonest c.self.inside.wake ≡ least_above c.args.now (marks_by p.keeper)) c.self.view_is
-    (known-next c.self.inside.wake c.self.inside.finished c.args.now c.self.inside.keeper c.self.invariant c.if-now-self.true)
+    (known-next c.self.inside.wake c.self.inside.finished c.args.now c.self.inside.keeper c.self.invariant.0 c.if-now-self.true)
