@@ -1,12 +1,16 @@
 -- What a world is made of may go between threads: the stores of controllers, what has happened, and a protocol's plan, which is shared.
 -- Whatever one of them owns is its own, so that a search finds it of each type by those of its parts.
-use denote.Builtin.{u8}
+use denote.Builtin.{u8, u16, u32}
+use denote.Hole.{as_row}
 use denote.Param.Send.{IsSend, IsSync, sendable}
-use denote.Param.SendFields.{declared_send, declared_sync}
-use Rattle.std.proofs.Crossing.{crosses, Box-send}
+use denote.Param.SendFields.{declared_send, declared_sync, variants_send, variants_sync}
+use denote.RattleType.{RattleType}
+use Rattle.std.proofs.Crossing.{crosses, Vec-send, Vec-sync, Box-send}
 use Rattle.std.proofs.MapsCrossing.{crosses as maps}
+use Rattle.std.specs.contracts.option.Option as Option
+use Rattle.std.specs.contracts.vec.Vec as Vec
 use Rattle.ruby_base.specs.contracts.seq.Seq as Seq
-use Rattle.network_book.proofs.TreesCross.{option-send, option-sync, seq-send, seq-sync, text-send, text-sync, tree-send, tree-sync}
+use Rattle.network_book.proofs.TreesCross.{boxed-send, boxed-sync, option-send, option-sync, seq-send, seq-sync, text-send, text-sync, tree-send, tree-sync}
 use Rattle.ruby_value.specs.contracts.kind.Kind as Kind
 use Rattle.ruby_value.specs.contracts.net_dest.NetDest as NetDest
 use Rattle.ruby_value.specs.contracts.value.Block as Block
@@ -44,6 +48,8 @@ use Rattle.run_journal.specs.contracts.verdict.Verdict as Verdict
 use Rattle.run_journal.specs.contracts.event.Event as Event
 use Rattle.run_journal.specs.contracts.writer.JournalWriter as JournalWriter
 use Rattle.world_state.specs.contracts.book.Book as Book
+use Rattle.world_state.specs.contracts.place.Kept as Kept
+use Rattle.world_state.specs.contracts.place.Keeper as Keeper
 use Rattle.world_state.specs.contracts.place.Place as Place
 use Rattle.world_state.specs.contracts.seat.SeatAt as SeatAt
 use Rattle.ruby_symbols.specs.contracts.machine.TableSymbol as TableSymbol
@@ -217,7 +223,7 @@ parts-send = declared_send Parts.the_type (
 
 pub store-send : IsSend Store.the_row
 store-send = record {
-  owned = λ d vs x. ((λ vss. (tt, (parts-send.owned x.0.parts vss.0, tt))), tt);
+  owned = λ d vs x. ((λ vss. (tt, ((Box-send Parts.the_row parts-send).owned x.0.parts vss.0, tt))), tt);
   leaving = λ k d w. tt;
 }
 
@@ -233,8 +239,20 @@ journalwriter-send = search (sendable, crosses, maps, verdict-send) depth 60 fit
 pub book-send : IsSend Book.the_row
 book-send = search (sendable, crosses, maps, event-send, journalwriter-send) depth 60 fits 20000
 
+pub kept-send : IsSend Kept.the_row
+kept-send = declared_send Kept.the_type (
+  search (sendable, crosses, store-send) depth 30 fits 3000,
+  (
+    search (sendable, crosses, routes-send) depth 30 fits 3000,
+    tt,
+  ),
+)
+
+pub keeper-send : IsSend Keeper.the_row
+keeper-send = search (sendable, crosses, maps, kept-send) depth 60 fits 20000
+
 pub place-send : IsSend Place.the_row
-place-send = search (sendable, crosses, maps, store-send, routes-send) depth 60 fits 20000
+place-send = search (sendable, crosses, maps, keeper-send) depth 60 fits 20000
 
 pub seatat-send : IsSend SeatAt.the_row
 seatat-send = search (sendable, crosses, maps) depth 60 fits 20000
