@@ -39,3 +39,4 @@ pub mod Rewriting
 pub mod Translating
 pub mod Completing
 pub mod SameStops
+pub mod Crossing
