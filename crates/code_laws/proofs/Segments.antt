@@ -22,10 +22,10 @@ abbrev pub with_stack : Held → List Value → Held
 with_stack h stack = record h { stack = stack }
 
 module _ (p : Program) (c : Code) (calls : Bodies) (setup : MachineSetup) where
-  abbrev X : List Instr → ℕ → ℕ → Held → Acting CodeEnd
+  abbrev pub X : List Instr → ℕ → ℕ → Held → Acting CodeEnd
   X instructions at skip h = exec p c calls instructions at skip h
 
-  at_place : (rest : List Instr) (m n skip : ℕ) (h : Held) → m ≡ n → X rest m skip h ≡ X rest n skip h
+  pub at_place : (rest : List Instr) (m n skip : ℕ) (h : Held) → m ≡ n → X rest m skip h ≡ X rest n skip h
   at_place rest m n skip h e = ap (λ k. X rest k skip h) e
 
   -- instructions that are skipped
@@ -132,19 +132,19 @@ module _ (p : Program) (c : Code) (calls : Bodies) (setup : MachineSetup) where
 
   -- Forks.
 
-  abbrev popped : Held → Held
+  abbrev pub popped : Held → Held
   popped h = with_stack h (drop 1 h.stack)
 
   -- by the truth of the value on top
-  goes_in : (to at : ℕ) (rest : List Instr) (h : Held) → truth (argument h.stack 0) ≡ true → Same setup (X (instr.Unless to ∷ rest) at 0 h) (X rest (at + 1) 0 (popped h))
+  pub goes_in : (to at : ℕ) (rest : List Instr) (h : Held) → truth (argument h.stack 0) ≡ true → Same setup (X (instr.Unless to ∷ rest) at 0 h) (X rest (at + 1) 0 (popped h))
   goes_in to at rest h is =
       joined setup (same_by setup (ap (λ b. ends (if b then On (popped h) else To to (popped h)) >>= follow at (λ skip k. X rest (at + 1) skip k)) is)) (at_once setup (On (popped h)) _)
 
-  goes_over : (to at : ℕ) (rest : List Instr) (h : Held) → truth (argument h.stack 0) ≡ false → Same setup (X (instr.Unless to ∷ rest) at 0 h) (X rest (at + 1) (to - (at + 1)) (popped h))
+  pub goes_over : (to at : ℕ) (rest : List Instr) (h : Held) → truth (argument h.stack 0) ≡ false → Same setup (X (instr.Unless to ∷ rest) at 0 h) (X rest (at + 1) (to - (at + 1)) (popped h))
   goes_over to at rest h is =
       joined setup (same_by setup (ap (λ b. ends (if b then On (popped h) else To to (popped h)) >>= follow at (λ skip k. X rest (at + 1) skip k)) is)) (at_once setup (To to (popped h)) _)
 
-  goes_to : (to at : ℕ) (rest : List Instr) (h : Held) → Same setup (X (instr.Jump to ∷ rest) at 0 h) (X rest (at + 1) (to - (at + 1)) h)
+  pub goes_to : (to at : ℕ) (rest : List Instr) (h : Held) → Same setup (X (instr.Jump to ∷ rest) at 0 h) (X rest (at + 1) (to - (at + 1)) h)
   goes_to to at rest h = at_once setup (To to h) _
 
   module _ {A : Type 0} (a b : Segment) (h : Held) (q : Acting A) (after : A → Held) where

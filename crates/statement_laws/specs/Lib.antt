@@ -1,0 +1,5 @@
+pub mod Slots
+pub mod Held
+pub mod Does
+pub mod Whole
+pub mod Forms

@@ -1,0 +1,2 @@
+//! That the action code of statements does what the statements mean.
+#![tactic(auto)]
