@@ -1,0 +1,2 @@
+pub mod BodyParts
+pub mod Prelude
