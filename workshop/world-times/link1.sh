@@ -1,0 +1,6 @@
+#!/bin/bash
+# link.sh OUT
+set -e
+cd /tmp/w/wdm
+/opt/rattle/toolchain/bin/clang --target=x86_64-unknown-linux-gnu --sysroot=/opt/rattle/toolchain -march=x86-64 -mllvm -no-trap-after-noreturn -ffunction-sections -fdata-sections -mllvm -trap-unreachable -mllvm -no-x86-call-frame-opt -mllvm -disable-machine-licm -mllvm -disable-postra-machine-licm -mllvm -sink-common-insts=false --no-default-config -no-canonical-prefixes -fintegrated-cc1 -fno-crash-diagnostics -c -x ir m1.bc -o $1.o -fPIE -O3 -fno-vectorize -fno-slp-vectorize
+/opt/rattle/bin/rattle-link --target x86_64-unknown-linux-gnu --toolchain /opt/rattle/toolchain -o $1 $1.o /opt/rattle/c/libos_c.a /opt/rattle/c/liblibc_c.a
