@@ -57,7 +57,7 @@ impl<D: Driver> Kept for Book<D> {
     ghost history = { λ b. numbers_of b.history };
 }
 
-/// What there is to do for a worker: it takes the least controller that is due and that nobody holds; where there is none, it waits for
+/// What there is to do for a worker: it takes a controller that is due and that nobody holds; where there is none, it waits for
 /// those that are held, or makes the turn. Without memory nothing has changed.
 pub(crate) fn take_next<D: Driver>(
     alloc: Global,

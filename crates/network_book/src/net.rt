@@ -54,7 +54,7 @@ impl<D: Driver> Net<D> {
         }
     }
 
-    /// A worker asks for something to do: it takes the least controller that is due and that nobody holds; where there is none, it makes
+    /// A worker asks for something to do: it takes a controller that is due and that nobody holds; where there is none, it makes
     /// the turn, unless some controller is held. Without memory it has done nothing, but may have seen more.
     pub fn take<R: Wait>(
         &self,
