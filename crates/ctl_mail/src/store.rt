@@ -1,4 +1,4 @@
-ghost use Rattle.std.specs.Prelude.{◌≡◌, ◌<◌, ◌≤◌, ◌+◌, ℕ, not, nat_lt, IfOk, OnOk};
+ghost use Rattle.std.specs.Prelude.{◌≡◌, ◌<◌, ◌≤◌, ◌+◌, ℕ, not, nat_lt, length, IfOk, OnOk};
 ghost use Rattle.std.specs.List.{find};
 ghost use Rattle.ctl_face.specs.Prelude.{mail_at_cycle, mail_with_mark, no_mail};
 ghost use Rattle.ctl_mail.specs.MailOf.{IsMail, buffer_count, mail_of};
@@ -108,6 +108,13 @@ impl MailStore {
         ensures first { IsNextMark (mail_of self.now).marks from result }
     {
         marks::next(&self.marks, from)
+    }
+
+    /// Whether credits are there that haven't been settled.
+    pub fn has_credits(&self) -> bool
+        ensures { result ≡ nat_lt 0 (length (mail_of self.now).credits) }
+    {
+        0 < self.credits.len()
     }
 
     /// Begins a cycle: the marks below it are dropped, no copy is counted in it yet, and the slots whose credits have arrived are free

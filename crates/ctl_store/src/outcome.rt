@@ -93,8 +93,9 @@ impl Store {
         ensures ok { OnOk result (HasRoomForOutcome self.new o.now) }
         ensures kept { KeepsRoom self.old self.new }
     {
-        self.parts.tables.reserve(&o.changes.tables)?;
-        self.parts.mail.reserve(&o.changes.mail)
+        let parts = &mut *self.parts;
+        parts.tables.reserve(&o.changes.tables)?;
+        parts.mail.reserve(&o.changes.mail)
     }
 
     /// Makes what an outcome changes, for which there is room, and counts one more transition as fired in this cycle. The outcome

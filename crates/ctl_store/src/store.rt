@@ -1,4 +1,4 @@
-ghost use Rattle.std.specs.Prelude.{◌≡◌, ◌+◌, ℕ, IfOk, OnOk, count_by, length};
+ghost use Rattle.std.specs.Prelude.{◌≡◌, ◌+◌, ℕ, IfOk, OnOk, count_by, length, nat_lt};
 ghost use Rattle.ctl_face.specs.Prelude.{at_cycle, with_parcel_arrival, with_stop, with_wake_up, IsMachine, no_requests, opening_ctl};
 ghost use Rattle.ctl_mail.specs.Prelude.{capped, is_queued, is_recycled, is_stalled, IsNextMark};
 ghost use Rattle.ctl_store.specs.Kept.{ctl_of, machine_of, me_of, requests_of};
@@ -17,7 +17,8 @@ use std::marker::Model;
 /// The store of a controller: its tables and states, its mail and its sequencer's requests, as they are between scans. A contract
 /// sees its controller by `ctl_of`, what it was made for by `machine_of` and `me_of`, and beside them the room of its containers.
 pub struct Store {
-    pub(crate) parts: Parts,
+    // On the heap, so that a store is moved at little cost.
+    pub(crate) parts: Box<Parts>,
 }
 
 // It is written out, so that a crate above proves a call where one goes, and not how each of its parts goes.
@@ -37,9 +38,9 @@ impl Model for Store {
 
     ghost coded = { parts_type.the_row.coded };
 
-    ghost view = { λ s. s.parts };
+    ghost view = { λ s. s.parts.value };
 
-    ghost invariant = { λ s. IsKept s.parts };
+    ghost invariant = { λ s. IsKept s.parts.value };
 }
 
 // The sequencer of a machine, if it has one.
@@ -64,17 +65,18 @@ impl Store {
         let sequencer = sequencer_of(alloc, &machine);
         let mail = MailStore::new(alloc, machine.buffers.len())?;
         let tables = Tables::new(alloc, &machine)?;
+        let parts = Parts {
+            machine,
+            me,
+            tables,
+            mail,
+            sequencer,
+            fired: 0,
+            stopped: false,
+            scratch: None,
+        };
         Ok(Store {
-            parts: Parts {
-                machine,
-                me,
-                tables,
-                mail,
-                sequencer,
-                fired: 0,
-                stopped: false,
-                scratch: None,
-            },
+            parts: Box::new(alloc, parts)?,
         })
     }
 
@@ -116,8 +118,9 @@ impl Store {
         ensures store { IsSameStore self.old self.new }
         ensures kept { KeepsRoom self.old self.new }
     {
-        self.parts.mail.begin(now);
-        self.parts.fired = 0;
+        let parts = &mut *self.parts;
+        parts.mail.begin(now);
+        parts.fired = 0;
     }
 
     /// Whether the controller has stopped. It takes no memory.
@@ -166,6 +169,13 @@ impl Store {
         ensures { IsNextMark (ctl_of self.now).mail.marks from result }
     {
         self.parts.mail.next_mark(from)
+    }
+
+    /// Whether credits are there that haven't been settled. It takes no memory.
+    pub fn has_credits(&self) -> bool
+        ensures { result ≡ nat_lt 0 (length (ctl_of self.now).mail.credits) }
+    {
+        self.parts.mail.has_credits()
     }
 
     /// How many messages are queued, stalled and recycled: one that waits is stalled, and of the others those are recycled that were

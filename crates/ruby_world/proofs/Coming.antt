@@ -24,7 +24,7 @@ use Rattle.sequencer.specs.Prelude.{Drive, Seat}
 use Rattle.world_state.specs.declared.place.Keeper.TheVariants.{World as Home, Worker}
 use Rattle.world_state.specs.declared.place.Keeper.{Keeper}
 use Rattle.world_state.specs.declared.place.Kept.{Kept}
-use Rattle.world_state.specs.declared.place.Place.{Place}
+use Rattle.world_state.specs.Shown.{Place}
 use Rattle.world_state.specs.declared.state.State.{State}
 use Rattle.world_state.specs.Arrivals.{HaveOwnNumbers}
 use Rattle.world_state.specs.Prelude.{CanSettle, IsHomeBy, IsMadeFor, Takes, made_for, waiting_at}

@@ -13,7 +13,7 @@ use Rattle.ctl_mail.specs.Census as census
 use Rattle.sequencer.specs.Prelude.{Drive, Seat}
 use Rattle.world_state.specs.declared.place.Keeper.{Keeper}
 use Rattle.world_state.specs.declared.place.Keeper.TheVariants.{World, Worker}
-use Rattle.world_state.specs.declared.place.Place.{Place}
+use Rattle.world_state.specs.Shown.{Place}
 use Rattle.world_state.specs.Prelude.{Made, made_by, made_in, place_with, places_with, IsNobody}
 use Rattle.ruby_world.specs.Prelude.{AreCountsOf, FitsWith, IsFew, IsNoMore, mail_by, mail_in}
 use Rattle.ruby_world.specs.declared.accounting.Counts.{Counts}

@@ -29,7 +29,7 @@ use Rattle.protocol_runs.proofs.Scans.{fitting, scan-of}
 use Rattle.sequencer.specs.Prelude.{Drive, Seat}
 use Rattle.world_state.specs.declared.place.Keeper.{Keeper}
 use Rattle.world_state.specs.declared.place.Keeper.TheVariants.{World as Home, Worker}
-use Rattle.world_state.specs.declared.place.Place.{Place}
+use Rattle.world_state.specs.Shown.{Place}
 use Rattle.world_state.specs.Prelude.{Comes, HasCome, IsHomeBy, with_parcels}
 use Rattle.ruby_world.specs.Data.{IsAt, IsPlaceOf, holder_of}
 

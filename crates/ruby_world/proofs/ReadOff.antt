@@ -13,7 +13,7 @@ use Rattle.ctl_face.specs.Prelude.{Ctl}
 use Rattle.sequencer.specs.Prelude.{Drive, Seat}
 use Rattle.world_state.specs.declared.place.Keeper.{Keeper}
 use Rattle.world_state.specs.declared.place.Keeper.TheVariants.{World as Home, Worker}
-use Rattle.world_state.specs.declared.place.Place.{Place}
+use Rattle.world_state.specs.Shown.{Place}
 use Rattle.world_state.specs.Prelude as stored
 use Rattle.world_state.specs.Prelude.{IsNobody, Made, made_by, made_in, waiting_at}
 use Rattle.world_state.specs.declared.state.State.{State}

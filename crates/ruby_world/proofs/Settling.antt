@@ -15,7 +15,7 @@ use Rattle.protocol_runs.specs.World as runs
 use Rattle.sequencer.specs.Prelude.{Drive, Seat}
 use Rattle.world_state.specs.declared.place.Keeper.{Keeper}
 use Rattle.world_state.specs.declared.place.Keeper.TheVariants.{World as Home, Worker}
-use Rattle.world_state.specs.declared.place.Place.{Place}
+use Rattle.world_state.specs.Shown.{Place}
 use Rattle.world_state.specs.declared.state.State.{State}
 use Rattle.world_state.specs.Prelude.{IsHomeBy, IsNobody, IsSettled, Made, made_in, place_by, place_with, places_with, waiting_at, world_of}
 use Rattle.world_state.proofs.Worlds.{home-at}

@@ -27,7 +27,7 @@ use Rattle.sequencer.specs.Prelude.{Drive, Seat}
 use Rattle.world_state.specs.declared.place.Keeper.{Keeper}
 use Rattle.world_state.specs.declared.place.Keeper.TheVariants.{World as Home, Worker}
 use Rattle.world_state.specs.declared.place.Kept.{Kept}
-use Rattle.world_state.specs.declared.place.Place.{Place}
+use Rattle.world_state.specs.Shown.{Place}
 use Rattle.world_state.specs.declared.state.State.{State}
 use Rattle.world_state.specs.Prelude.{AreMade, IsEndedAt, IsMadeFor, IsPutBack, IsTakenOut, Made, SameCycle, Writes, home_place, made_by, made_for, made_in, waiting_at}
 use Rattle.ruby_world.specs.Data.{IsAt, IsKept, IsBase, IsPlaceOf, held_count, holder_of}

@@ -5,7 +5,7 @@ use Rattle.protocol_runs.specs.Prelude.{is_queued, is_recycled, is_stalled, Mail
 use Rattle.ctl_store.specs.Prelude.{ctl_of}
 use Rattle.world_state.specs.declared.place.Keeper.{Keeper}
 use Rattle.world_state.specs.declared.place.Keeper.TheVariants.{World, Worker}
-use Rattle.world_state.specs.declared.place.Place.{Place}
+use Rattle.world_state.specs.Shown.{Place}
 use Rattle.ruby_world.specs.declared.accounting.Counts.{Counts}
 
 abbrev pub mail_by : Keeper → List Mailed

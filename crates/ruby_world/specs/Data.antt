@@ -20,7 +20,7 @@ use Rattle.ruby_world.specs.Worlds.{WorldView, setting_in}
 use Rattle.sequencer.specs.Prelude.{Drive, Seat}
 use Rattle.world_state.specs.declared.place.Keeper.{Keeper}
 use Rattle.world_state.specs.declared.place.Keeper.TheVariants.{World as Home, Worker}
-use Rattle.world_state.specs.declared.place.Place.{Place}
+use Rattle.world_state.specs.Shown.{Place}
 use Rattle.world_state.specs.declared.seat.SeatAt.{SeatAt}
 use Rattle.world_state.specs.Prelude.{AreMade, Made, made_in, setups_in, waiting_at}
 use Rattle.world_state.specs.declared.state.State.{State}

@@ -29,7 +29,7 @@ fn with_place(counts: Counts, place: &Place) -> Counts
     ensures { (mail : List Mailed) → AreCountsOf mail counts
         → AreCountsOf (mail ++ mail_by place.now.keeper) result }
 {
-    match &place.keeper {
+    match place.keeper() {
         Keeper::World(kept) => {
             let told = kept.store.census();
             let queued = counts.queued.saturating_add(told.0);

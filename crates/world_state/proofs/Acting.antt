@@ -25,7 +25,7 @@ use Rattle.sequencer.specs.Prelude.{Drive, IsFindingAt, IsLawful, after_drive, a
 use Rattle.world_state.specs.Prelude.{HasLine, IsHome, IsHomeBy, Made, made_by, made_in, place_with, places_with, IsHomeIn, controllers_in, setup_of as setup_at, setups_in, IsNobody, world_of, IsActIn, IsReady, requests_in, seating_in, IsOfRun}
 use Rattle.world_state.specs.declared.place.Keeper.{Keeper}
 use Rattle.world_state.specs.declared.place.Keeper.TheVariants.{World as Home, Worker}
-use Rattle.world_state.specs.declared.place.Place.{Place}
+use Rattle.world_state.specs.Shown.{Place}
 use Rattle.world_state.specs.declared.seat.SeatAt.{SeatAt}
 use Rattle.world_state.specs.Seated.{AreApart}
 use Rattle.world_state.specs.declared.state.State.{State}

@@ -19,7 +19,7 @@ use Rattle.world_state.specs.Prelude.{CanArrive, SuitsBy, Takes, TakesAt, made_i
 use Rattle.world_state.specs.declared.place.Keeper.{Keeper}
 use Rattle.world_state.specs.declared.place.Kept.{Kept}
 use Rattle.world_state.specs.declared.place.Keeper.TheVariants.{World as Home, Worker}
-use Rattle.world_state.specs.declared.place.Place.{Place}
+use Rattle.world_state.specs.Shown.{Place}
 use Rattle.world_state.specs.declared.state.State.{State}
 use Rattle.world_state.proofs.Copies.{IsNewTo}
 use Rattle.world_state.proofs.Worlds.{made-at, place-at}

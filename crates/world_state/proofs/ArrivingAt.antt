@@ -12,7 +12,7 @@ use Rattle.protocol_runs.proofs.Places.{set-at}
 use Rattle.ctl_face.specs.Prelude.{with_parcel_arrival, Ctl}
 use Rattle.world_state.specs.declared.place.Keeper.{Keeper}
 use Rattle.world_state.specs.declared.place.Keeper.TheVariants.{World, Worker}
-use Rattle.world_state.specs.declared.place.Place.{Place}
+use Rattle.world_state.specs.Shown.{Place}
 use Rattle.world_state.specs.Arrivals.{AreApart, HaveOwnNumbers}
 use Rattle.world_state.specs.Prelude.{CanArrive, HasRoom, HasRoomBy, Takes, TakesAt, delivered_one, with_arrival_at, place_with, places_with}
 use Rattle.world_state.proofs.At.{place-set}

@@ -15,7 +15,7 @@ use Rattle.sequencer.specs.Prelude.{Drive, Seat}
 use Rattle.world_state.specs.Prelude.{has_stopped, stopped_by as stopped_at, IsHomeBy, made_in, marks_by, place_by, place_with, places_with, IsClosed, IsRested, AreMade, IsSettled, IsNobody, world_of, IsStep}
 use Rattle.world_state.specs.declared.place.Keeper.{Keeper}
 use Rattle.world_state.specs.declared.place.Keeper.TheVariants.{World as Home, Worker}
-use Rattle.world_state.specs.declared.place.Place.{Place}
+use Rattle.world_state.specs.Shown.{Place}
 use Rattle.world_state.specs.declared.state.State.{State}
 use Rattle.world_state.proofs.Stepping.{stays-kept}
 use Rattle.world_state.proofs.Worlds.{home-at}

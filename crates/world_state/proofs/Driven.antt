@@ -20,7 +20,7 @@ use Rattle.world_state.proofs.Asking.{numbers-count}
 use Rattle.world_state.specs.Prelude.{HasRoom, HasRoomBy, delivered, HasLine, IsHome, Made, made_by, made_in, places_with, IsHomeIn, controllers_in, seated, setup_of, setups_in, Booked, AreOut, CanEnd, HasRoomToAct, IsActed, IsReadyToAct, IsActIn, IsDriven, IsReady, messages_in, numbers_of, requests_in, seated_in, seating_in}
 use Rattle.world_state.specs.declared.place.Keeper.{Keeper}
 use Rattle.world_state.specs.declared.place.Keeper.TheVariants.{World, Worker}
-use Rattle.world_state.specs.declared.place.Place.{Place}
+use Rattle.world_state.specs.Shown.{Place}
 use Rattle.world_state.specs.declared.seat.SeatAt.{SeatAt}
 use Rattle.world_state.specs.declared.state.State.{State}
 use Rattle.world_state.specs.declared.driving.Told.{Told}

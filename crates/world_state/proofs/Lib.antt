@@ -12,6 +12,7 @@ pub mod Readings
 pub mod Marks
 pub mod Positions
 pub mod At
+pub mod Quiet
 pub mod ArrivingAt
 pub mod Inboxes
 pub mod Acting

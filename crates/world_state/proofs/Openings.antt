@@ -10,7 +10,7 @@ use Rattle.ctl_face.specs.Prelude.{Ctl}
 use Rattle.ctl_store.specs.Prelude.{ctl_of}
 use Rattle.sequencer.specs.Prelude.{Drive, Seat}
 use Rattle.world_state.specs.declared.place.Kept.{Kept}
-use Rattle.world_state.specs.declared.place.Place.{Place}
+use Rattle.world_state.specs.Shown.{Place}
 use Rattle.world_state.specs.Prelude.{Made, made_for, made_in, places_with, IsOpening, IsSettled, IsMadeFor, IsNobody, home_place, world_of}
 use Rattle.world_state.specs.declared.state.State.{State}
 

@@ -15,7 +15,7 @@ use Rattle.protocol_runs.specs.World as runs
 use Rattle.protocol_runs.proofs.Places.{set-at}
 use Rattle.world_state.specs.declared.place.Keeper.{Keeper}
 use Rattle.world_state.specs.declared.place.Keeper.TheVariants.{World, Worker}
-use Rattle.world_state.specs.declared.place.Place.{Place}
+use Rattle.world_state.specs.Shown.{Place}
 use Rattle.ctl_face.specs.declared.parcel.Parcel.TheVariants as parcel
 use Rattle.ctl_mail.specs.Prelude.{IsNewIn}
 use Rattle.ctl_store.specs.Prelude.{ctl_of}

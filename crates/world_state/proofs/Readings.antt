@@ -6,7 +6,7 @@ use Rattle.std.proofs.lemmas.List.Sums.{fails_before_first}
 use Rattle.std.proofs.lemmas.Option.{get_or_from_slice_get, slice_get_within}
 use Rattle.world_state.specs.declared.place.Keeper.{Keeper}
 use Rattle.world_state.specs.declared.place.Keeper.TheVariants.{World, Worker}
-use Rattle.world_state.specs.declared.place.Place.{Place}
+use Rattle.world_state.specs.Shown.{Place}
 use Rattle.world_state.specs.Prelude.{is_held, made_by, made_in, IsNobody}
 
 pub none-passes : {X : Type 0} (f : X → Bool) (xs : List X) → position f xs ≡ None → (c : ℕ) (x : X) → slice_get xs c ≡ Some x → f x ≡ false

@@ -24,7 +24,7 @@ use Rattle.protocol_runs.proofs.Scans.{maps-join}
 use Rattle.sequencer.specs.Prelude.{Drive, Seat}
 use Rattle.world_state.specs.Arrivals as arrivals
 use Rattle.world_state.specs.Prelude.{CanArrive, Made, made_by, made_in, places_with, controllers_in, setups_in, AreMade, IsHeldIn, IsNobody, world_of, IsActIn, requests_in, seated_in, IsOfRun}
-use Rattle.world_state.specs.declared.place.Place.{Place}
+use Rattle.world_state.specs.Shown.{Place}
 use Rattle.world_state.specs.declared.seat.SeatAt.{SeatAt}
 use Rattle.world_state.proofs.Served.{served-places}
 use Rattle.world_state.specs.declared.state.State.{State}

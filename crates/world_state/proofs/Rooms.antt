@@ -14,7 +14,7 @@ use Rattle.ctl_store.specs.Prelude.{ctl_of}
 use Rattle.world_state.specs.Prelude.{CanArrive, SuitsBy, Takes, TakesAt, Made, made_by, made_in, place_by, place_with, places_with}
 use Rattle.world_state.specs.declared.place.Keeper.{Keeper}
 use Rattle.world_state.specs.declared.place.Keeper.TheVariants.{World, Worker}
-use Rattle.world_state.specs.declared.place.Place.{Place}
+use Rattle.world_state.specs.Shown.{Place}
 use Rattle.protocol_runs.proofs.Controllers.{and-some, some-and}
 use Rattle.world_state.proofs.Worlds.{made-at, place-at}
 

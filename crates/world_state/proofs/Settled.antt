@@ -6,7 +6,7 @@ use Rattle.std.specs.List.{AllPairs}
 use Rattle.std.proofs.lemmas.Bool.{cases_lt}
 use Rattle.std.proofs.lemmas.List.{append-nil}
 use Rattle.ctl_face.specs.declared.parcel.Parcel.{Parcel}
-use Rattle.world_state.specs.declared.place.Place.{Place}
+use Rattle.world_state.specs.Shown.{Place}
 use Rattle.world_state.specs.Arrivals.{HaveOwnNumbers}
 use Rattle.world_state.specs.Prelude.{CanSettle, Comes, ComesWithRoom, HasPartlyCome, Takes, waiting_at}
 

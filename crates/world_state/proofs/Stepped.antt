@@ -22,7 +22,7 @@ use Rattle.sequencer.specs.Prelude.{Drive, Seat}
 use Rattle.world_state.specs.Prelude.{delivered, has_stopped, next_of, stopped_by, IsHomeBy, is_free, made_in, marks_by, place_by, place_with, places_with, IsRested, AreMade, IsSettled, IsNobody, world_of, IsStep, GoesOn, IsActIn, IsSameDriver, IsTurned, messages_in, next_in, numbers_of, requests_in, seated_in, setups_in, IsOfRun}
 use Rattle.world_state.specs.declared.place.Keeper.{Keeper}
 use Rattle.world_state.specs.declared.place.Keeper.TheVariants.{World as Home, Worker}
-use Rattle.world_state.specs.declared.place.Place.{Place}
+use Rattle.world_state.specs.Shown.{Place}
 use Rattle.world_state.specs.declared.seat.SeatAt.{SeatAt}
 use Rattle.world_state.proofs.Asking.{numbers-count}
 use Rattle.world_state.proofs.Served.{served-places}

@@ -11,7 +11,7 @@ use Rattle.protocol_runs.proofs.Runs.{run-more}
 use Rattle.protocol_runs.proofs.Steps.{change-steps}
 use Rattle.ctl_face.specs.Prelude.{Ctl}
 use Rattle.sequencer.specs.Prelude.{Drive, Seat}
-use Rattle.world_state.specs.declared.place.Place.{Place}
+use Rattle.world_state.specs.Shown.{Place}
 use Rattle.world_state.specs.Prelude.{made_by, made_in, places_with, AreMade, IsSettled, IsNobody, world_of, IsStep, SameCycle, Writes}
 use Rattle.world_state.specs.declared.state.State.{State}
 use Rattle.world_state.proofs.Worlds.{nobody-same}

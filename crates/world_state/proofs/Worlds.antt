@@ -11,7 +11,7 @@ use Rattle.sequencer.specs.Prelude.{Drive, Seat}
 use Rattle.world_state.specs.Prelude.{delivered, delivered_one, with_arrival_at, IsHomeBy, Made, made_by, made_in, place_by, place_with, places_with, IsNobody}
 use Rattle.world_state.specs.declared.place.Keeper.{Keeper}
 use Rattle.world_state.specs.declared.place.Keeper.TheVariants.{World, Worker}
-use Rattle.world_state.specs.declared.place.Place.{Place}
+use Rattle.world_state.specs.Shown.{Place}
 
 -- two functions that agree on a list, but for one of its elements
 pub all-same : {X Y : Type 0} (f g : X → Y) (xs : List X) → ((d : ℕ) (y : X) → slice_get xs d ≡ Some y → f y ≡ g y) → map f xs ≡ map g xs

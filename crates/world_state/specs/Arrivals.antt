@@ -13,7 +13,7 @@ use Rattle.ctl_store.specs.Prelude.{HasRoomForParcels}
 use Rattle.ctl_store.specs.Prelude as store
 use Rattle.world_state.specs.declared.place.Keeper.{Keeper}
 use Rattle.world_state.specs.declared.place.Keeper.TheVariants.{World, Worker}
-use Rattle.world_state.specs.declared.place.Place.{Place}
+use Rattle.world_state.specs.Shown.{Place}
 
 -- the places after a parcel, and after parcels
 abbrev pub with_arrival_at : List (runs.Place Ctl) → Delivery Parcel → Option (runs.Place Ctl) → List (runs.Place Ctl)

@@ -3,7 +3,7 @@ use Rattle.std.specs.Prelude.{◌≡◌, ℕ, false, None, Some, [], slice_get}
 use Rattle.run_journal.specs.declared.entry.Entry.TheVariants.{Turned}
 use Rattle.run_journal.specs.declared.event.Event.TheVariants.{Turn}
 use Rattle.run_journal.specs.declared.verdict.Verdict.TheVariants.{Stop}
-use Rattle.world_state.specs.declared.place.Place.{Place}
+use Rattle.world_state.specs.Shown.{Place}
 use Rattle.world_state.specs.Places.{is_free}
 use Rattle.world_state.specs.declared.state.State.{State}
 use Rattle.world_state.specs.Steps.{Writes}

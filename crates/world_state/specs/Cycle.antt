@@ -10,7 +10,7 @@ use Rattle.ctl_face.specs.Prelude.{at_cycle, Ctl}
 use Rattle.ctl_store.specs.Prelude.{ctl_of}
 use Rattle.world_state.specs.declared.place.Keeper.{Keeper}
 use Rattle.world_state.specs.declared.place.Keeper.TheVariants.{World, Worker}
-use Rattle.world_state.specs.declared.place.Place.{Place}
+use Rattle.world_state.specs.Shown.{Place}
 use Rattle.world_state.specs.Places.{marks_by}
 
 abbrev pub next_of : ℕ → Option ℕ → List Place → Option ℕ

@@ -9,7 +9,7 @@ use Rattle.sequencer.specs.declared.issued.Issued.{Issued}
 use Rattle.sequencer.specs.Prelude.{Drive, after_drive, FitSeats, Seat, Seating}
 use Rattle.world_state.specs.Arrivals.{CanArrive, HasRoom, delivered}
 use Rattle.world_state.specs.Cycle.{HasLine}
-use Rattle.world_state.specs.declared.place.Place.{Place}
+use Rattle.world_state.specs.Shown.{Place}
 use Rattle.world_state.specs.Places.{IsHome, made_in, places_with}
 use Rattle.world_state.specs.declared.seat.SeatAt.{SeatAt}
 use Rattle.world_state.specs.Seated.{IsHomeIn, seated}

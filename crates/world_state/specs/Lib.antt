@@ -4,6 +4,8 @@ pub mod Steps
 pub mod Ended
 pub mod Opened
 pub mod Closed
+pub mod Shown
+pub mod Quiet
 pub mod Places
 pub mod Arrivals
 pub mod Cycle

@@ -12,7 +12,7 @@ use Rattle.ctl_store.specs.Prelude.{ctl_of, machine_of, me_of}
 use Rattle.world_state.specs.declared.place.Keeper.{Keeper}
 use Rattle.world_state.specs.declared.place.Keeper.TheVariants.{World, Worker}
 use Rattle.world_state.specs.declared.place.Kept.{Kept}
-use Rattle.world_state.specs.declared.place.Place.{Place}
+use Rattle.world_state.specs.Shown.{Place}
 
 -- the place of a run, where the held controller is this one
 abbrev pub place_by : (held : Ctl) (finished : Bool) → Keeper → runs.Place Ctl

@@ -4,6 +4,8 @@ pub use Rattle.world_state.specs.States.{AreMade, IsHeldIn, IsMadeFor, IsNobody,
 pub use Rattle.world_state.specs.Steps.{IsSame, IsStep, SameCycle, Writes}
 pub use Rattle.world_state.specs.Ended.{ended, rested}
 pub use Rattle.world_state.specs.Opened.{IsOpening}
+pub use Rattle.world_state.specs.Quiet.{IsKnown, IsQuiet, IsQuietBy, soonest}
+pub use Rattle.world_state.specs.Shown.{Place}
 pub use Rattle.world_state.specs.Closed.{IsClosed, IsRested}
 pub use Rattle.world_state.specs.Places.{IsEndedAt, IsHome, IsHomeAt, IsHomeBy, IsPutBack, IsTakenOut, Made, is_free, is_held, made_by, made_for, made_in, marks_by, place_by, place_with, places_with}
 pub use Rattle.world_state.specs.Arrivals.{CanArrive, HasRoom, HasRoomBy, HaveOwnNumbers, SuitsBy, Takes, TakesAt, delivered, delivered_one, with_arrival_at}

@@ -7,7 +7,7 @@ use Rattle.ctl_face.specs.Prelude.{Ctl}
 use Rattle.sequencer.specs.Prelude.{Drive, Seat}
 use Rattle.world_state.specs.declared.place.Keeper.TheVariants as keeper
 use Rattle.world_state.specs.declared.place.Kept.{Kept}
-use Rattle.world_state.specs.declared.place.Place.{Place}
+use Rattle.world_state.specs.Shown.{Place}
 use Rattle.world_state.specs.Places.{Made, made_in, places_with}
 use Rattle.world_state.specs.declared.state.State.{State}
 

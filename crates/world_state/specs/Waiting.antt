@@ -10,7 +10,7 @@ use Rattle.ctl_face.specs.Prelude.{with_parcel_arrival, Ctl}
 use Rattle.protocol_runs.specs.World as runs
 use Rattle.world_state.specs.Arrivals.{HasRoom, HaveOwnNumbers, Takes}
 use Rattle.world_state.specs.Places.{made_by, place_with}
-use Rattle.world_state.specs.declared.place.Place.{Place}
+use Rattle.world_state.specs.Shown.{Place}
 
 abbrev pub parcels_in : Option (Vec Parcel Global) → List Parcel
 parcels_in None = []

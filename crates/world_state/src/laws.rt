@@ -9,7 +9,7 @@ ghost use Rattle.ctl_store.specs.Prelude.{ctl_of};
 ghost use Rattle.sequencer.specs.Prelude.{Drive, Seat, after_drive};
 ghost use Rattle.world_state.specs.Prelude.{has_stopped, CanArrive, is_free, is_held, made_for, made_in, places_with, IsClosed, IsRested, IsOpening, IsSettled, IsMadeFor, IsNobody, IsStep, HasLine, IsHome, controllers_in, seated, setups_in, IsActIn, IsReady, IsTurned, requests_in, seated_in, seating_in, CanTurn, IsOfRun};
 ghost use Rattle.world_state.specs.declared.place.Kept.{Kept};
-ghost use Rattle.world_state.specs.declared.place.Place.{Place, Place as PlaceRecord};
+ghost use Rattle.world_state.specs.Shown.{Place, Place as PlaceRecord};
 ghost use Rattle.world_state.specs.declared.state.State.{State};
 ghost use Rattle.run_journal.specs.declared.verdict.Verdict.{Verdict};
 ghost use Rattle.ruby_value.specs.Prelude.{IsRequest};

@@ -5,7 +5,7 @@ ghost use Rattle.std.specs.Option.{option_map_or};
 ghost use Rattle.protocol_runs.specs.Prelude.{above, earlier, later};
 ghost use Rattle.world_state.specs.Prelude.{has_stopped, next_of, is_free, is_held};
 
-use crate::place::{Keeper, Place};
+use crate::place::Place;
 
 /// The least controller that is due at a cycle and that nobody holds, or `None` exactly where there is none.
 pub fn first_free(places: &[Place], now: u64) -> Option<u32>
@@ -33,7 +33,7 @@ pub fn is_free_at(places: &[Place], c: u32, now: u64) -> bool
 fn is_held(place: &Place) -> bool
     ensures { result ≡ is_held place.now.keeper }
 {
-    matches!(place.keeper, Keeper::Worker(_))
+    place.is_held()
 }
 
 /// Whether some controller is held.

@@ -4,7 +4,7 @@ ghost use Rattle.world_state.specs.Steps.{IsSame};
 ghost use Rattle.world_state.specs.Opened.{IsOpening};
 ghost use Rattle.world_state.specs.Closed.{IsClosed};
 
-use crate::{Book, Keeper, Kept, Place};
+use crate::{Book, Kept, Place};
 use ruby_value::NoMemory;
 use run_journal::Verdict;
 use std::alloc::Global;
@@ -31,10 +31,7 @@ impl<D> State<D> {
     {
         let mut places = Vec::new(alloc);
         for k in kept {
-            places.push(Place {
-                keeper: Keeper::World(k),
-                finished: false,
-            })?;
+            places.push(Place::home(k, false))?;
         }
         Ok(State {
             now: 0,

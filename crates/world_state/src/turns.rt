@@ -9,8 +9,8 @@ ghost use Rattle.run_journal.specs.declared.event.Event.TheVariants as event;
 
 use crate::driving::{Told, drive};
 use crate::{
-    Keeper, Place, SeatAt, State, begin_all, closes_are_steps, least_stopped, next_cycle,
-    seats_are_ready, turned_data_are_steps, verdict_after,
+    Place, SeatAt, State, begin_all, closes_are_steps, least_stopped, next_cycle, seats_are_ready,
+    turned_data_are_steps, verdict_after,
 };
 use ruby_value::NoMemory;
 use run_journal::Verdict;
@@ -30,10 +30,7 @@ pub fn take_at(places: &mut Vec<Place>, a: SeatAt) -> Option<Sequencer>
         return None;
     }
     let place = &mut places[a.controller as usize];
-    match &mut place.keeper {
-        Keeper::World(kept) => kept.store.take_sequencer(),
-        Keeper::Worker(_) => unreachable!(),
-    }
+    place.take_sequencer()
 }
 
 /// Puts a sequencer into the store of a seat that has one. It takes no memory.
@@ -48,10 +45,7 @@ pub fn put_at(places: &mut Vec<Place>, a: SeatAt, sequencer: Option<Sequencer>)
         return;
     }
     let place = &mut places[a.controller as usize];
-    match &mut place.keeper {
-        Keeper::World(kept) => kept.store.put_sequencer(sequencer),
-        Keeper::Worker(_) => unreachable!(),
-    }
+    place.put_sequencer(sequencer);
 }
 
 /// A turn of a world in which nobody is held and no controller is due: the run ends with the least-numbered controller that has

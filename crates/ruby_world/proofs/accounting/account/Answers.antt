@@ -1,7 +1,7 @@
 use Rattle.std.proofs.Common.{List, arith, subst, sym}
 use Rattle.ruby_world.specs.Prelude.{AreCountsOf, IsFew, mail_in}
 use Rattle.ruby_world.proofs.Counted.{account-held, few-of}
-use Rattle.world_state.specs.declared.place.Place.{Place}
+use Rattle.world_state.specs.Shown.{Place}
 use Rattle.ruby_world.proofs.accounting.account.Goals as goal
 
 pub counts_of-counts-requires : goal.counts_of-counts-requires

@@ -1,7 +1,7 @@
 use Rattle.std.proofs.Common.{List, arith, subst, take}
 use Rattle.std.proofs.lemmas.List.{take_all}
 use Rattle.protocol_runs.specs.Prelude.{Mailed}
-use Rattle.world_state.specs.declared.place.Place.{Place}
+use Rattle.world_state.specs.Shown.{Place}
 use Rattle.ruby_world.specs.Prelude.{AreCountsOf, mail_in}
 use Rattle.ruby_world.proofs.Counted.{fits-with, mail-more}
 use Rattle.ruby_world.proofs.accounting.counts_of.Goals as goal

@@ -1,4 +1,4 @@
-use Rattle.std.proofs.Common.{◌++◌, List, map, subst, sym}
+use Rattle.std.proofs.Common.{◌++◌, ◌∙◌, List, map, subst, sym}
 use Rattle.std.specs.Prelude.{count_by}
 use Rattle.ctl_face.specs.Prelude.{InboxMessage}
 use Rattle.ctl_mail.specs.Prelude.{is_queued, is_recycled, is_stalled}
@@ -15,10 +15,10 @@ returns-in-World c =
     let inbox : List InboxMessage = (ctl_of c.in-World.kept.store).mail.inbox in
     let before : Counts = c.args.counts in
     let after : Counts = record { queued = c.saturating_add-queued.result; stalled = c.saturating_add-stalled.result; recycled = c.saturating_add-recycled.result } in
-    let fits : FitsWith before (map mailed inbox) = subst (λ (k : Keeper). FitsWith before (mail_by k)) c.in-World.is c.requires in
+    let fits : FitsWith before (map mailed inbox) = subst (λ (k : Keeper). FitsWith before (mail_by k)) (sym c.keeper.ensures ∙ c.in-World.is) c.requires in
     let few = census-fits before inbox fits in
     λ mail are.
-    subst (λ (k : Keeper). AreCountsOf (mail ++ mail_by k) after) (sym c.in-World.is)
+    subst (λ (k : Keeper). AreCountsOf (mail ++ mail_by k) after) (sym (sym c.keeper.ensures ∙ c.in-World.is))
     (counts-more mail inbox before after are
     (told-more before.queued c.census-told.result.0 after.queued (count_by is_queued inbox) c.saturating_add-queued.ensures c.census-told.ensures.queued few.0)
     (told-whole before.stalled c.census-told.result.1 after.stalled (count_by is_stalled inbox) c.saturating_add-stalled.ensures c.census-told.ensures.stalled few.1)
@@ -26,4 +26,4 @@ returns-in-World c =
 
 pub returns-in-Worker : goal.returns-in-Worker
 returns-in-Worker c =
-    λ mail are. subst (λ (k : Keeper). AreCountsOf (mail ++ mail_by k) c.args.counts) (sym c.in-Worker.is) (counts-still mail c.args.counts are)
+    λ mail are. subst (λ (k : Keeper). AreCountsOf (mail ++ mail_by k) c.args.counts) (sym (sym c.keeper.ensures ∙ c.in-Worker.is)) (counts-still mail c.args.counts are)

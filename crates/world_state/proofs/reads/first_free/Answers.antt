@@ -2,7 +2,7 @@ use Rattle.std.proofs.Common.{◌∙◌, sym, ap, rules, List, arith, length, �
 use Rattle.std.specs.List.{position_from}
 use Rattle.std.proofs.Math.ListN.{drop_of_length-le}
 use Rattle.std.proofs.lemmas.Iterator.Adapters.{position_from-zero}
-use Rattle.world_state.specs.declared.place.Place.{Place}
+use Rattle.world_state.specs.Shown.{Place}
 use Rattle.world_state.specs.Prelude.{is_free}
 use Rattle.world_state.proofs.Positions.{position_here}
 use Rattle.world_state.proofs.reads.first_free.Goals as goal

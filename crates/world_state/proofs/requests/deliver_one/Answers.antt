@@ -1,7 +1,7 @@
 use Rattle.std.proofs.Common.{◌≡◌, ◌<◌, ◌+◌, ◌∙◌, Some, length, ap, refl, subst, sym, slice_get, []}
 use Rattle.std.proofs.lemmas.Option.{slice_get_read}
 use Rattle.world_state.specs.Prelude.{HasRoom, made_by}
-use Rattle.world_state.specs.declared.place.Place.{Place}
+use Rattle.world_state.specs.Shown.{Place}
 use Rattle.world_state.proofs.ArrivingAt.{can-still, one-delivered, room-still, takes-within}
 use Rattle.world_state.proofs.At.{made-same}
 use Rattle.world_state.proofs.requests.deliver_one.Goals as goal

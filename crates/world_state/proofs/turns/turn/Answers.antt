@@ -3,7 +3,7 @@ use Rattle.std.specs.List.{position}
 use Rattle.ruby_value.specs.declared.fault.Finding.{Finding}
 use Rattle.ruby_value.specs.declared.message.MsgNo.{MsgNo}
 use Rattle.world_state.specs.Prelude.{has_stopped, IsCycleEnded}
-use Rattle.world_state.specs.declared.place.Place.{Place}
+use Rattle.world_state.specs.Shown.{Place}
 use Rattle.world_state.proofs.Over.{stands}
 use Rattle.world_state.proofs.turns.turn.Goals as goal
 

@@ -1,5 +1,5 @@
 use Rattle.std.proofs.Common.{◌≡◌, ◌∙◌, List, Some, All, ap, length, refl, slice_get, slice_set, subst, sym}
-use Rattle.world_state.specs.declared.place.Place.{Place}
+use Rattle.world_state.specs.Shown.{Place}
 use Rattle.std.specs.List.{AllPairs}
 use Rattle.std.proofs.lemmas.Option.{slice_get_read}
 use Rattle.ctl_face.specs.declared.parcel.Parcel.{Parcel}

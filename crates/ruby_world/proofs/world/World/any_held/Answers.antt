@@ -7,7 +7,7 @@ use Rattle.ruby_world.proofs.Keeping.{laws}
 use Rattle.std.specs.List.{list_any}
 use Rattle.protocol_runs.specs.Prelude.{is_held}
 use Rattle.world_state.specs.Prelude as stored
-use Rattle.world_state.specs.declared.place.Place.{Place}
+use Rattle.world_state.specs.Shown.{Place}
 use Rattle.ruby_world.proofs.ReadOff.{any-held, in-world}
 use Rattle.ruby_world.proofs.world.World.any_held.Goals as goal
 

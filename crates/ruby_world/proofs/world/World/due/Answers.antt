@@ -7,7 +7,7 @@ use Rattle.ruby_world.proofs.Keeping.{laws}
 use Rattle.std.specs.List.{position}
 use Rattle.protocol_runs.specs.Prelude.{is_free}
 use Rattle.world_state.specs.Prelude as stored
-use Rattle.world_state.specs.declared.place.Place.{Place}
+use Rattle.world_state.specs.Shown.{Place}
 use Rattle.ruby_world.specs.Prelude.{rules_in}
 use Rattle.ruby_world.proofs.Facts.{few-controllers}
 use Rattle.ruby_world.proofs.ReadOff.{first-free, in-world}

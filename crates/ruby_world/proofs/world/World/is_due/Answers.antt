@@ -6,7 +6,7 @@ use Rattle.ruby_world.specs.Prelude.{view_of}
 use Rattle.ruby_world.proofs.Keeping.{laws}
 use Rattle.std.specs.Option.{option_map_or}
 use Rattle.world_state.specs.Prelude as stored
-use Rattle.world_state.specs.declared.place.Place.{Place}
+use Rattle.world_state.specs.Shown.{Place}
 use Rattle.ruby_world.specs.Prelude.{is_free_at}
 use Rattle.ruby_world.proofs.ReadOff.{free-at, in-world}
 use Rattle.ruby_world.proofs.world.World.is_due.Goals as goal

@@ -8,14 +8,14 @@ use Rattle.ctl_store.specs.declared.parts.Parts.{Parts}
 use Rattle.ctl_store.specs.Prelude as store
 use Rattle.ctl_store.specs.Prelude.{ctl_of, machine_of}
 use Rattle.world_state.specs.Arrivals.{HaveOwnNumbers}
-use Rattle.world_state.specs.Prelude.{HasRoomBy, SuitsBy}
+use Rattle.world_state.specs.Prelude.{HasRoom, HasRoomBy, SuitsBy, Takes}
 use Rattle.world_state.specs.declared.place.Keeper.{Keeper}
 use Rattle.world_state.proofs.Inboxes.{still-new-after}
 use Rattle.world_state.proofs.place.Place.arrive.Goals as goal
 
 pub returns-clause-room : goal.returns-clause-room
 returns-clause-room c =
-    λ more has. c.arrive.ensures.room more (subst (λ (k : Keeper). HasRoomBy (more + 1) k) c.in-World.is has)
+    λ more has. c.arrive.ensures.room more (subst (λ (k : Keeper). HasRoomBy (more + 1) k) c.in-World.is (subst (HasRoom (more + 1)) (sym c.self.view_is) has))
 
 -- what the store takes after a parcel has come
 still-takes : (old new : Parts) (p n : Parcel) → ctl_of new ≡ with_parcel_arrival (ctl_of old) p → machine_of new ≡ machine_of old
@@ -30,4 +30,4 @@ pub returns-clause-others : goal.returns-clause-others
 returns-clause-others c =
     λ n differ takes.
     still-takes c.in-World.kept.store _ c.args.p n c.arrive.ensures.after c.arrive.ensures.store.machine differ
-    (subst (λ (k : Keeper). SuitsBy n k) c.in-World.is takes)
+    (subst (λ (k : Keeper). SuitsBy n k) c.in-World.is (subst (Takes n) (sym c.self.view_is) takes))
