@@ -1,7 +1,7 @@
 /// Where a worker stands as it passes a gate.
 #[derive(Clone, Copy)]
 pub enum Moment {
-    /// It has taken what it works on.
+    /// It is about to take what it works on.
     Take,
     /// It has posted what came of its work.
     Posted,
