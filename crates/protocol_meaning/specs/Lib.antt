@@ -3,6 +3,7 @@ pub mod Meaning
 pub mod Setting
 pub mod Kept
 pub mod Rounds
+pub mod Tallies
 pub mod Records
 pub mod Adding
 pub mod Extent

@@ -5,6 +5,7 @@ unfoldable pub use Rattle.protocol_meaning.specs.Meaning.{lookups_of, scan_of}
 pub use Rattle.protocol_meaning.specs.Setting.{setting_of}
 pub use Rattle.protocol_meaning.specs.Kept.{IsKept, KeepsRanges, kept_value}
 pub use Rattle.protocol_meaning.specs.Rounds.{StaysIfFired, outcome_of_round}
+pub use Rattle.protocol_meaning.specs.Tallies.{tallies_below, workers_for}
 pub use Rattle.protocol_meaning.specs.Records.{IsRecordOf, IsWholeRunBy, rules_in, setting_in}
 pub use Rattle.protocol_meaning.specs.Adding.{scanned_with}
 pub use Rattle.protocol_meaning.specs.Extent.{AreWithin, Extent, IsController, IsMember, IsWithin, members_of}

@@ -8,7 +8,7 @@ use Rattle.clap.proofs.WalkLemmas.{both}
 use Rattle.ruby_options.specs.declared.options.Command.{Command}
 use Rattle.ruby_options.specs.declared.options.Command.TheVariants.{Run, Plain, Check, Table, Code, Gen}
 use Rattle.ruby_options.specs.declared.tables.TheConstants.{REQUESTS, GENERATED, SEED, CHECKS, LINES, CYCLES, WORKERS, DEADLOCK, LIMIT}
-use Rattle.ruby_options.specs.Prelude.{are_in_range, count_in, counting, name_at, numbers_in_range, options_of, works_alone, Between, OptionRow, are_digits, is_number_within, number_in, number_of, number_within, option_row, order_in, trace_in, value_of, HasDefaults, IsBetween, IsWithin, WorksAlone, requests_of}
+use Rattle.ruby_options.specs.Prelude.{count_in, counting, name_at, options_of, Between, OptionRow, are_digits, is_number_within, number_in, number_of, number_within, option_row, order_in, trace_in, value_of, HasDefaults, IsBetween, IsWithin, requests_of}
 
 within : (b : Between) (word : Text) → is_number_within b word ≡ true → IsBetween b (value_of word)
 within b word e =
@@ -49,19 +49,6 @@ requests Table names count e = none count e
 requests Code names count e = none count e
 requests Gen names count e = some_within GENERATED (name_at names 0) count e
 
-alone : (command : Command) (found : List Row) → are_in_range command found ≡ true
-    → WorksAlone command (number_of (counting command found) (option_row WORKERS))
-unfolding are_in_range
-alone command found e = go command (both (is_some (order_in found)) _ (both (is_some (trace_in found)) _ (both (numbers_in_range found) _ e).1).1).1
-  where
-    go : (command : Command) → works_alone command found ≡ true → WorksAlone command (number_of (counting command found) (option_row WORKERS))
-    go Run is = eqb-true _ _ is
-    go Plain is = eqb-true _ _ is
-    go Check is = tt
-    go Table is = tt
-    go Code is = tt
-    go Gen is = tt
-
 generated : (names : List Text) (count : ℕ) → HasDefaults (options_of Gen names count [])
 unfolding number_of number_in order_in trace_in
 generated names count = record {
@@ -85,9 +72,8 @@ when_generated Check names count found is = absurd (cc is)
 when_generated Table names count found is = absurd (cc is)
 when_generated Code names count found is = absurd (cc is)
 
-pub are_within : (command : Command) (names : List Text) (count : ℕ) (found : List Row) → count_in command names ≡ Some count → are_in_range command found ≡ true
-    → IsWithin (options_of command names count (counting command found))
-are_within command names count found e range =
+pub are_within : (command : Command) (names : List Text) (count : ℕ) (found : List Row) → count_in command names ≡ Some count → IsWithin (options_of command names count (counting command found))
+are_within command names count found e =
     let given = counting command found in
     record {
       count = requests command names count e;
@@ -96,7 +82,6 @@ are_within command names count found e range =
       lines = option_between given (option_row LINES) (omega arith, omega arith);
       cycles = option_between given (option_row CYCLES) (omega arith, omega arith);
       workers = option_between given (option_row WORKERS) (omega arith, omega arith);
-      alone = alone command found range;
       deadlock = option_between given (option_row DEADLOCK) (omega arith, omega arith);
       limit = option_between given (option_row LIMIT) (omega arith, omega arith);
       generated = when_generated command names count found;

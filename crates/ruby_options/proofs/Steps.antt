@@ -38,9 +38,9 @@ module _ (found : List Row) (word : Text) (names : List Text) (w : word ≡ word
     pub no_count : count_in command names ≡ None → Err Range ≡ asked_of found
     no_count e = counted None e
 
-    pub out_of_range : (count : ℕ) → count_in command names ≡ Some count → are_in_range command found ≡ false → Err Range ≡ asked_of found
+    pub out_of_range : (count : ℕ) → count_in command names ≡ Some count → are_in_range found ≡ false → Err Range ≡ asked_of found
     out_of_range count e range = sym (ap (by_range command names found count) range) ∙ counted (Some count) e
 
-    pub in_range : (count : ℕ) → count_in command names ≡ Some count → are_in_range command found ≡ true → (o : Options)
+    pub in_range : (count : ℕ) → count_in command names ≡ Some count → are_in_range found ≡ true → (o : Options)
         → o ≡ options_of command names count (counting command found) → Ok o ≡ asked_of found
     in_range count e range o is = ap (λ (o : Options). ok o) is ∙ sym (ap (by_range command names found count) range) ∙ counted (Some count) e

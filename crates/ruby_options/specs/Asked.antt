@@ -67,20 +67,11 @@ abbrev pub counting : Command → List Row → List Row
 counting Gen found = []
 counting command found = found
 
--- a run that is asked for is the calling thread's work alone, as long as there are no workers
-abbrev pub has_no_workers : List Row → Bool
-has_no_workers found = number_of found (option_row WORKERS) == 0
-
-abbrev pub works_alone : Command → List Row → Bool
-works_alone Run found = has_no_workers found
-works_alone Plain found = has_no_workers found
-works_alone command found = true
-
 unfoldable pub numbers_in_range : List Row → Bool
 numbers_in_range found = list_all (λ o. is_some (number_in found (option_row o))) NUMBERS
 
-unfoldable pub are_in_range : Command → List Row → Bool
-are_in_range command found = numbers_in_range found && (is_some (trace_in found) && (is_some (order_in found) && works_alone command found))
+unfoldable pub are_in_range : List Row → Bool
+are_in_range found = numbers_in_range found && (is_some (trace_in found) && is_some (order_in found))
 
 abbrev pub options_of : Command → List Text → ℕ → List Row → Options
 options_of command names count found =
@@ -104,7 +95,7 @@ options_of command names count found =
 
 abbrev pub asked_with : Command → List Text → List Row → ℕ → Result Options OptionFault
 asked_with command names found count =
-    if are_in_range command found then Ok (options_of command names count (counting command found)) else Err Range
+    if are_in_range found then Ok (options_of command names count (counting command found)) else Err Range
 
 abbrev pub asked_by : List Text → List Row → Command → Result Options OptionFault
 asked_by names found command = option_map_or (asked_with command names found) (count_in command names) (Err Range)

@@ -1,8 +1,8 @@
--- What holds of all options that words ask for: each number is within its bounds by the tables, a run has no workers as long as
--- there are none, and for a generated protocol every option has its default. It follows from what is asked.
+-- What holds of all options that words ask for: each number is within its bounds by the tables, and for a generated protocol every
+-- option has its default. It follows from what is asked.
 use Rattle.std.specs.Prelude.{◌≡◌, ◌≤◌, ℕ, true}
 use Rattle.ruby_options.specs.declared.options.Command.{Command}
-use Rattle.ruby_options.specs.declared.options.Command.TheVariants.{Run, Plain, Gen}
+use Rattle.ruby_options.specs.declared.options.Command.TheVariants.{Plain, Gen}
 use Rattle.ruby_options.specs.declared.options.Options.{Options}
 use Rattle.ruby_options.specs.declared.options.Order.TheVariants.{Journal}
 use Rattle.ruby_options.specs.declared.tables.TheConstants.{REQUESTS, GENERATED, SEED, CHECKS, LINES, CYCLES, WORKERS, DEADLOCK, LIMIT}
@@ -16,11 +16,6 @@ abbrev pub requests_of : Command → Between
 requests_of Plain = REQUESTS
 requests_of Gen = GENERATED
 requests_of command = (0, 0)
-
-abbrev pub WorksAlone : Command → (workers : ℕ) → Type 0
-WorksAlone Run workers = workers ≡ 0
-WorksAlone Plain workers = workers ≡ 0
-WorksAlone command workers = Unit {0}
 
 pub record HasDefaults (o : Options) : Type 0 where
   pub seed : o.seed ≡ SEED.2
@@ -40,7 +35,6 @@ pub record IsWithin (o : Options) : Type 0 where
   pub lines : IsBetween LINES.1 o.lines
   pub cycles : IsBetween CYCLES.1 o.cycles
   pub workers : IsBetween WORKERS.1 o.workers
-  pub alone : WorksAlone o.command o.workers
   pub deadlock : IsBetween DEADLOCK.1 o.deadlock
   pub limit : IsBetween LIMIT.1 o.limit
   pub generated : o.command ≡ Gen → HasDefaults o

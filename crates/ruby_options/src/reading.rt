@@ -3,7 +3,7 @@ ghost use Rattle.std.specs.Prelude.{◌≡◌, IfOk, IsUtf8, is_some, map, strin
 ghost use Rattle.std.specs.List.{list_all};
 ghost use Rattle.clap.specs.Matches.{found_of};
 ghost use Rattle.clap.specs.Walk.{rows_of};
-ghost use Rattle.ruby_options.specs.Prelude.{IsRead, are_in_range, asked, asked_of, counting, has_no_workers, numbers_in_range, options_of, word_found, works_alone, rows_given, number_in, number_of, option_row, order_in, trace_in, IsWithin};
+ghost use Rattle.ruby_options.specs.Prelude.{IsRead, are_in_range, asked, asked_of, counting, numbers_in_range, options_of, word_found, rows_given, number_in, number_of, option_row, order_in, trace_in, IsWithin};
 
 use crate::command_line::{found_in, line_of};
 use crate::numbers::{number_in, number_of, order_in, trace_in};
@@ -29,23 +29,6 @@ fn numbers_in_range(matches: &ArgMatches<'_>) -> bool
     all_in_range(&NUMBERS, matches)
 }
 
-// No workers are asked for.
-fn has_no_workers(matches: &ArgMatches<'_>) -> bool
-    ensures { result ≡ has_no_workers (rows_of (found_of matches.now)) }
-{
-    number_of(Some(matches), WORKERS) == 0
-}
-
-// A run that is asked for is the calling thread's work alone, as long as there are no workers.
-fn works_alone(command: Command, matches: &ArgMatches<'_>) -> bool
-    ensures { result ≡ works_alone command (rows_of (found_of matches.now)) }
-{
-    match command {
-        Command::Run | Command::Plain => has_no_workers(matches),
-        Command::Check | Command::Table | Command::Code | Command::Gen => true,
-    }
-}
-
 fn is_trace_in_range(matches: &ArgMatches<'_>) -> bool
     ensures { result ≡ is_some (trace_in (rows_of (found_of matches.now))) }
 {
@@ -60,13 +43,13 @@ fn is_order_in_range(matches: &ArgMatches<'_>) -> bool
 
 // Whether each option that is given has a value in its range.
 #[tactic(auto, unfolding(crate::specs::Asked::are_in_range))]
-fn are_in_range(command: Command, matches: &ArgMatches<'_>) -> bool
-    ensures { result ≡ are_in_range command (rows_of (found_of matches.now)) }
+fn are_in_range(matches: &ArgMatches<'_>) -> bool
+    ensures { result ≡ are_in_range (rows_of (found_of matches.now)) }
 {
     if !numbers_in_range(matches) {
         return false;
     }
-    is_trace_in_range(matches) && is_order_in_range(matches) && works_alone(command, matches)
+    is_trace_in_range(matches) && is_order_in_range(matches)
 }
 
 // What counts of what is given for options: nothing for a generated protocol.
@@ -141,7 +124,7 @@ fn asked_of(alloc: Global, matches: &ArgMatches<'_>) -> Result<Options, OptionFa
     let Some(count) = command.count(names) else {
         return Err(OptionFault::Range);
     };
-    if !are_in_range(command, matches) {
+    if !are_in_range(matches) {
         return Err(OptionFault::Range);
     }
     let given = counting(command, matches);

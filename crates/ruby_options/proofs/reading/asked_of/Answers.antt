@@ -20,14 +20,14 @@ returns-in_default-count-clause-asked c =
 
 pub returns-then-not-are_in_range-clause-asked : goal.returns-then-not-are_in_range-clause-asked
 returns-then-not-are_in_range-clause-asked c =
-    let range : are_in_range c.in-Some.command (rows_of (found_of c.args.matches.now)) ≡ false = first_of (search rules, grind arith) in
+    let range : are_in_range (rows_of (found_of c.args.matches.now)) ≡ false = first_of (search rules, grind arith) in
     inr (out_of_range (rows_of (found_of c.args.matches.now)) c.word_found-word.result.now (map (λ n. n.now) c.unwrap_or-names.result.now)
     c.word_found-word.ensures (names_are (found_of c.args.matches.now) c.get_strs.result _ c.unwrap_or-names.result c.get_strs.ensures c.unwrap_or-names.ensures refl) c.in-Some.command (sym c.of.ensures ∙ c.in-Some.is)
     c.in-Some-count.count (sym c.count.ensures ∙ c.in-Some-count.is) range)
 
 pub returns-clause-asked : goal.returns-clause-asked
 returns-clause-asked c =
-    let range : are_in_range c.in-Some.command (rows_of (found_of c.args.matches.now)) ≡ true = first_of (search rules, grind arith) in
+    let range : are_in_range (rows_of (found_of c.args.matches.now)) ≡ true = first_of (search rules, grind arith) in
     let names = map (λ n. n.now) c.unwrap_or-names.result.now in
     inr (in_range (rows_of (found_of c.args.matches.now)) c.word_found-word.result.now names
     c.word_found-word.ensures (names_are (found_of c.args.matches.now) c.get_strs.result _ c.unwrap_or-names.result c.get_strs.ensures c.unwrap_or-names.ensures refl) c.in-Some.command (sym c.of.ensures ∙ c.in-Some.is)
@@ -37,8 +37,7 @@ returns-clause-asked c =
 pub returns-clause-within : goal.returns-clause-within
 returns-clause-within c =
     let found = rows_of (found_of c.args.matches.now) in
-    let range : are_in_range c.in-Some.command found ≡ true = first_of (search rules, grind arith) in
     let names = map (λ n. n.now) c.unwrap_or-names.result.now in
     let given = options_of c.in-Some.command names c.in-Some-count.count in
     subst IsWithin (sym (c.in_ok-options.ensures.options ∙ ap given c.counting-given.ensures))
-    (are_within c.in-Some.command names c.in-Some-count.count found (sym c.count.ensures ∙ c.in-Some-count.is) range)
+    (are_within c.in-Some.command names c.in-Some-count.count found (sym c.count.ensures ∙ c.in-Some-count.is))
