@@ -64,7 +64,7 @@ impl<'a> Maker for CountingMaker<'a> {
     }
 }
 
-// Runs what the words ask for by such a maker, and answers the status of the call.
+// Runs what the words ask for by such a maker, without workers, and answers the status of the call.
 fn status_of<L: Library>(
     alloc: Global,
     maker: &CountingMaker<'_>,
@@ -72,11 +72,11 @@ fn status_of<L: Library>(
     library: &mut L,
 ) -> Option<u8> {
     match read(alloc, words) {
-        Ok(options) => {
+        Ok(options) if options.workers == 0 => {
             let mut sink = SureSink::new();
             Some(end_of(alone_by(alloc, maker, options, library, &mut sink)).0)
         }
-        Err(_) => None,
+        Ok(_) | Err(_) => None,
     }
 }
 

@@ -3,7 +3,7 @@ use Rattle.std.proofs.Common.{◌≡◌, ℕ, Bool, true, false, List, [], ◌�
 use Rattle.std.proofs.lemmas.Option.{same_Some}
 use Rattle.run_journal.specs.declared.entry.Entry.{Entry}
 use Rattle.run_journal.specs.declared.event.Event.{Event}
-use Rattle.run_journal.specs.Prelude.{AreFinals, tally}
+use Rattle.run_journal.specs.Prelude.{AreFinals}
 use Rattle.run_journal.proofs.FinalStates.{same_finals}
 use Rattle.protocol_runs.specs.Prelude.{account, IsAlone, Rules, IsRun, World, rules}
 use Rattle.ctl_face.specs.declared.parcel.Parcel.{Parcel}
@@ -13,7 +13,7 @@ use Rattle.sequencer.specs.Prelude.{Drive, plain_drive, plain_needs, Seat}
 use Rattle.random_tester.specs.Prelude.{tester_drive, tester_needs}
 use Rattle.ruby_options.specs.declared.options.Options.{Options}
 use Rattle.ruby_topology.specs.declared.topology.Topology.{Topology}
-use Rattle.protocol_meaning.specs.Prelude.{meaning_of, setting_of, IsWholeRunBy, rules_in, setting_in}
+use Rattle.protocol_meaning.specs.Prelude.{meaning_of, setting_of, IsWholeRunBy, rules_in, setting_in, tallies_below, workers_for}
 use Rattle.protocol_runs.proofs.Driver.{IsDriver}
 use Rattle.protocol_runs.proofs.Lawful.{one_end, one_history}
 use Rattle.protocol_meaning.specs.declared.record.RunRecord.{RunRecord}
@@ -59,7 +59,11 @@ module _ {D : Type 0} (drive : D → List Seat → ℕ → Drive D) (needs : D �
       ∙ ap (λ (x : R). account x q.journal v.places) same_rules
       ∙ sym also.account in
       let verdicts : r.verdict ≡ q.verdict = same_Some r.verdict q.verdict (sym is.verdict ∙ ap (λ (x : World Ctl D). x.verdict) end.0 ∙ also.verdict) in
-      let tallies : r.tallies ≡ q.tallies = is.tallies ∙ ap (λ (es : List Event). tally 0 es ∷ []) history ∙ sym also.tallies in
+      let tallies : r.tallies ≡ q.tallies =
+      is.tallies
+      ∙ ap (λ (es : List Event). tallies_below (workers_for r.options.workers) es) history
+      ∙ ap (λ (o : Options). tallies_below (workers_for o.workers) q.history) same.options
+      ∙ sym also.tallies in
       record_same r q same history end.1 (same_finals q.journal r.finals q.finals finals_r also.finals) accounts verdicts tallies
 
 module _ (r q : RunRecord) (lawful : IsLawfulRun r) (same : IsSameBeginning r q) where

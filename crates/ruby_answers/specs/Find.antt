@@ -16,7 +16,7 @@ use Rattle.ruby_topology.specs.declared.forms.TopoFault.TheVariants.{Line, NoMem
 use Rattle.ruby_topology.specs.declared.topology.Topology.{Topology}
 use Rattle.protocol_meaning.specs.declared.record.RunRecord.{RunRecord}
 use Rattle.ruby_answers.specs.Call.{IsBeginning, IsEachOnce, IsTopologyAtMost}
-use Rattle.ruby_answers.specs.Headline.{IsByOneWorker}
+use Rattle.ruby_answers.specs.Headline.{IsAloneAsAsked, IsByOneWorker}
 use Rattle.ruby_answers.specs.Record.{IsWholeRun}
 
 -- the record is of a whole run of this protocol over this topology, as these options ask for it
@@ -35,6 +35,10 @@ IsAnswerOf of_run (Err NoMemory) a = ⊥
 -- one worker made the answer's run, if it has one
 abbrev pub IsAloneAnswer : Answer → Type 0
 IsAloneAnswer a = IfSome (kept_of a) IsByOneWorker
+
+-- one worker did where the options of the run ask for none
+abbrev pub IsAloneAnswerAsAsked : Answer → Type 0
+IsAloneAnswerAsAsked a = IfSome (kept_of a) IsAloneAsAsked
 
 -- the protocol is a generated one, for which no file is read
 abbrev pub is_generated : Command → Bool

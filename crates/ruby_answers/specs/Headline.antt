@@ -1,5 +1,5 @@
 -- The theorem about a call of the program: what each clause of the top calls says, but that a record is of a whole run
--- (`IsWholeRun`) and that no file is read twice (`IsReadOnce`). All but `IsByOneWorker` follow from what the call does
+-- (`IsWholeRun`) and that no file is read twice (`IsReadOnce`). All but `IsAloneAsAsked` follow from what the call does
 -- (`IsAnswered`), where the options are within their bounds. `asked` is what was asked for, if anything; `files` are those of the
 -- library, where it tells them; a call ends with `done`, its status and the record that it kept. That a library's or a sink's count
 -- of faults rose in the call is `read_rose` and `write_rose`; `before` and `after` are what the sink tells as the call begins and
@@ -10,7 +10,6 @@ use Rattle.std.specs.Option.{ForSome}
 use Rattle.ruby_outside.specs.Prelude.{Files, grown, IsCutOff}
 use Rattle.slicc_ast.specs.declared.tree.item.Tree.{Tree}
 use Rattle.slicc_files.specs.Prelude.{Read, MayBeGiven}
-use Rattle.run_journal.specs.Prelude.{tally}
 use Rattle.protocol_runs.specs.Prelude.{IsAccounted, IsAlone, InvalidExactly, WakesOnce, World}
 use Rattle.ctl_face.specs.Prelude.{Ctl}
 use Rattle.sequencer.specs.Prelude.{Drive, Seat}
@@ -19,7 +18,7 @@ use Rattle.ruby_options.specs.declared.options.Command.TheVariants.{Run, Plain, 
 use Rattle.ruby_options.specs.declared.options.Options.{Options}
 use Rattle.ruby_topology.specs.declared.topology.Topology.{Topology}
 use Rattle.protocol_meaning.specs.declared.record.RunRecord.{RunRecord}
-use Rattle.protocol_meaning.specs.Prelude.{IsRecordOf, rules_in}
+use Rattle.protocol_meaning.specs.Prelude.{IsRecordOf, rules_in, tallies_below, workers_for}
 use Rattle.one_answer.specs.Prelude.{IsOneAnswer}
 use Rattle.ruby_answers.specs.declared.done.Answer.{Answer}
 use Rattle.ruby_answers.specs.declared.done.Answer.TheVariants.{Ran, Generated, ReadFault}
@@ -53,9 +52,9 @@ IsInvalidExactly r = ByItsDriver r (λ D drive driver. InvalidExactly (rules_in 
 abbrev pub IsOnlyAnswer : RunRecord → Type 0
 IsOnlyAnswer r = ByItsDriver r (λ D drive driver. IsOneAnswer drive driver r)
 
--- one tally, of the one worker, has the counts of its events
+-- there is a tally for each worker, and it has the counts of that worker's events
 abbrev pub IsTallied : RunRecord → Type 0
-IsTallied r = r.tallies ≡ tally 0 r.history ∷ []
+IsTallied r = r.tallies ≡ tallies_below (workers_for r.options.workers) r.history
 
 -- the command makes a run
 abbrev pub makes_run : Command → Bool
@@ -131,9 +130,13 @@ pub record IsMade (files : Files) (asked : Option Options) (write_rose : Type 0)
 pub record IsComplete (files : Option Files) (asked : Option Options) (read_rose write_rose : Type 0) (done : Done) : Type 0 where
   pub made : ForSome files (λ known. (read_rose → ⊥) → (done.status ≡ 8) ⊎ IsMade known asked write_rose done)
 
--- one worker made the run, and took the controllers in the order of their numbers; this is so of a run on one thread
+-- one worker made the run, and took the controllers in the order of their numbers
 abbrev pub IsByOneWorker : RunRecord → Type 0
 IsByOneWorker r = ByItsDriver r (λ D drive driver. IsAlone (rules_in drive driver r) r.history)
+
+-- this is so where no workers were asked for, so that the calling thread made the run
+abbrev pub IsAloneAsAsked : RunRecord → Type 0
+IsAloneAsAsked r = r.options.workers ≡ 0 → IsByOneWorker r
 
 -- the clauses that follow from what a call does
 pub record IsTheorem (files : Option Files) (asked : Option Options) (read_rose write_rose : Type 0) (before after : Option (List ℕ)) (done : Done) : Type 0 where

@@ -1,46 +1,21 @@
-// The runs that options ask for, on one thread.
+// The runs that options ask for.
 ghost use Rattle.std.specs.Prelude.{◌≡◌, ◌≤◌, IfErr, IfOk, false, length, true};
-ghost use Rattle.ruby_answers.specs.Prelude.{IsRunIn, IsByOneWorker, is_tested, IsRunOf, plain_topologies, topologies_said};
+ghost use Rattle.ruby_answers.specs.Prelude.{IsRunIn, IsAloneAsAsked, is_tested, IsRunOf, plain_topologies, topologies_said};
 ghost use Rattle.ruby_options.specs.Prelude.{IsWithin};
-ghost use Rattle.protocol_runs.specs.Prelude.{IsAlone};
 ghost use Rattle.ruby_topology.specs.Prelude.{ForLine, IsRefused, IsRefusedPlain};
-ghost use Rattle.protocol_meaning.specs.Prelude.{IsWholeRunBy, rules_in};
 ghost use Rattle.slicc_plan.specs.Prelude.{symbols_of};
 ghost use Rattle.protocol_meaning.specs.Prelude.{FitsPlan};
 
-use crate::maker::Maker;
+use crate::runner::Runner;
 use protocol_meaning::{plain_topologies_fit, topologies_fit};
 use random_tester::Tester;
 use ruby_base::NoMemory;
 use ruby_options::{Command, Options};
 use ruby_topology::{TopoFault, Topology, plain, read_topology};
-use ruby_world::{RunRecord, run_whole};
-use sequencer::{Driver, PlainDriver};
+use ruby_world::RunRecord;
+use sequencer::PlainDriver;
 use slicc_plan::Plan;
 use std::alloc::Global;
-
-// A whole run by a driver that is as its constructor made it and needs one seat at most, of a protocol over a topology that fits it.
-fn run_by<M: Maker, D: Driver>(
-    alloc: Global,
-    maker: &M,
-    plan: Plan,
-    topology: Topology,
-    options: Options,
-    driver: D,
-) -> Result<RunRecord, NoMemory>
-    requires fits { FitsPlan plan topology }
-    requires within { IsWithin options }
-    requires opening { D.opening driver ≡ driver }
-    requires least { D.least driver ≤ 1 }
-    ensures plan { IfOk result (λ r. r.plan ≡ plan) }
-    ensures topology { IfOk result (λ r. r.topology ≡ topology) }
-    ensures options { IfOk result (λ r. r.options ≡ options) }
-    ensures whole { IfOk result (IsWholeRunBy D.drive driver) }
-    ensures alone { IfOk result (λ r. IsAlone (rules_in D.drive driver r) r.history) }
-{
-    let protocol = maker.make(alloc, &plan)?;
-    run_whole(alloc, &protocol, plan, topology, options, driver)
-}
 
 fn is_tested(command: Command) -> bool
     ensures { result ≡ is_tested command }
@@ -52,9 +27,9 @@ fn is_tested(command: Command) -> bool
 }
 
 // A run by the random tester, which is the actor after the last controller.
-fn tested_run<M: Maker>(
+fn tested_run<R: Runner>(
     alloc: Global,
-    maker: &M,
+    runner: &R,
     plan: Plan,
     topology: Topology,
     options: Options,
@@ -63,7 +38,7 @@ fn tested_run<M: Maker>(
     requires within { IsWithin options }
     requires command { is_tested options.command ≡ true }
     ensures run { IfOk result (IsRunIn plan topology options) }
-    ensures by_one_worker { IfOk result IsByOneWorker }
+    ensures alone { IfOk result IsAloneAsAsked }
 {
     let stream = topology.names().len() as u64;
     let tester = Tester::new(
@@ -74,13 +49,13 @@ fn tested_run<M: Maker>(
         options.checks,
         options.deadlock,
     )?;
-    run_by(alloc, maker, plan, topology, options, tester)
+    runner.run_tested(alloc, plan, topology, options, tester)
 }
 
 // A run by the plain driver.
-fn untested_run<M: Maker>(
+fn untested_run<R: Runner>(
     alloc: Global,
-    maker: &M,
+    runner: &R,
     plan: Plan,
     topology: Topology,
     options: Options,
@@ -89,16 +64,16 @@ fn untested_run<M: Maker>(
     requires within { IsWithin options }
     requires command { is_tested options.command ≡ false }
     ensures run { IfOk result (IsRunIn plan topology options) }
-    ensures by_one_worker { IfOk result IsByOneWorker }
+    ensures alone { IfOk result IsAloneAsAsked }
 {
     let driver = PlainDriver::new(options.count);
-    run_by(alloc, maker, plan, topology, options, driver)
+    runner.run_plain(alloc, plan, topology, options, driver)
 }
 
 // A run by the driver that the options ask for.
-fn run<M: Maker>(
+fn run<R: Runner>(
     alloc: Global,
-    maker: &M,
+    runner: &R,
     plan: Plan,
     topology: Topology,
     options: Options,
@@ -106,38 +81,38 @@ fn run<M: Maker>(
     requires fits { FitsPlan plan topology }
     requires within { IsWithin options }
     ensures run { IfOk result (IsRunIn plan topology options) }
-    ensures by_one_worker { IfOk result IsByOneWorker }
+    ensures alone { IfOk result IsAloneAsAsked }
 {
     if is_tested(options.command) {
-        tested_run(alloc, maker, plan, topology, options)
+        tested_run(alloc, runner, plan, topology, options)
     } else {
-        untested_run(alloc, maker, plan, topology, options)
+        untested_run(alloc, runner, plan, topology, options)
     }
 }
 
 /// A plain run of a protocol, or why there is none.
-pub(crate) fn plain_run<M: Maker>(
+pub(crate) fn plain_run<R: Runner>(
     alloc: Global,
-    maker: &M,
+    runner: &R,
     plan: Plan,
     options: Options,
 ) -> Result<RunRecord, TopoFault>
     requires within { IsWithin options }
     ensures ok { IfOk result (IsRunOf (plain_topologies plan) options plan) }
     ensures err { IfErr result (λ fault. ForLine fault (IsRefusedPlain (symbols_of plan))) }
-    ensures by_one_worker { IfOk result IsByOneWorker }
+    ensures alone { IfOk result IsAloneAsAsked }
 {
     plain_topologies_fit();
     let _trees = plan.trees();
     let topology = plain(alloc, &plan)?;
-    let record = run(alloc, maker, plan, topology, options)?;
+    let record = run(alloc, runner, plan, topology, options)?;
     Ok(record)
 }
 
 /// A run of a protocol over the topology that these bytes say, or why there is none.
-pub(crate) fn said_run<M: Maker>(
+pub(crate) fn said_run<R: Runner>(
     alloc: Global,
-    maker: &M,
+    runner: &R,
     plan: Plan,
     bytes: &[u8],
     options: Options,
@@ -146,11 +121,11 @@ pub(crate) fn said_run<M: Maker>(
     requires length { length bytes.now ≤ 1048576 }
     ensures ok { IfOk result (IsRunOf (topologies_said plan bytes.now) options plan) }
     ensures err { IfErr result (λ fault. ForLine fault (IsRefused (symbols_of plan) bytes.now)) }
-    ensures by_one_worker { IfOk result IsByOneWorker }
+    ensures alone { IfOk result IsAloneAsAsked }
 {
     topologies_fit();
     let _trees = plan.trees();
     let topology = read_topology(alloc, bytes, &plan)?;
-    let record = run(alloc, maker, plan, topology, options)?;
+    let record = run(alloc, runner, plan, topology, options)?;
     Ok(record)
 }

@@ -4,6 +4,7 @@
 
 mod program;
 mod top;
+mod workers;
 
 pub use program::ruby;
 pub use ruby_answers::{

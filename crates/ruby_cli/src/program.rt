@@ -1,9 +1,10 @@
 // The top call over the words of a command line.
 ghost use Rattle.std.specs.Prelude.{IfSome, map, string_bytes};
 ghost use Rattle.ruby_outside.specs.Prelude.{Rose};
-ghost use Rattle.ruby_answers.specs.Prelude.{IsAnswered, IsUsageAnswered, IsWokenOnce, IsMessageAccount, IsInvalidExactly, IsTallied, IsOnlyAnswer, IsAsAsked, IsAsWritten, IsCaused, IsComplete, IsByOneWorker, IsWholeRun, asked_by};
+ghost use Rattle.ruby_answers.specs.Prelude.{IsAnswered, IsUsageAnswered, IsWokenOnce, IsMessageAccount, IsInvalidExactly, IsTallied, IsOnlyAnswer, IsAsAsked, IsAsWritten, IsCaused, IsComplete, IsAloneAsAsked, IsWholeRun, asked_by};
 
-use crate::top::ruby_alone;
+use crate::top::answer_options;
+use crate::workers::ByWorkers;
 use crate::{Answer, Done};
 use ruby_answers::{clauses_follow, write_answer};
 use ruby_options::{OptionFault, read};
@@ -15,41 +16,45 @@ use std::thread::Threads;
 // Answers words that ask for nothing.
 fn answer_usage<S: Sink>(sink: &mut S) -> Done
     ensures answered { IsUsageAnswered S.writes sink.old sink.new result }
-    ensures by_one_worker { IfSome result.kept IsByOneWorker }
+    ensures alone { IfSome result.kept IsAloneAsAsked }
 {
     let answer = Answer::Usage;
     let whole = write_answer(sink, &answer, &None);
     Done::of(answer, whole)
 }
 
-// Answers what the words ask for, as `ruby`, and waits for nobody.
-fn answer_words<L: Library, S: Sink>(
+// Answers what the words ask for, as `ruby`.
+fn answer_words<R: Threads + Wait + Sync, L: Library, S: Sink, G: Gate + Sync>(
+    rt: &R,
     alloc: Global,
     words: &[String],
     library: &mut L,
     sink: &mut S,
+    gate: &G,
 ) -> Done
     ensures answered { IsAnswered L.reads S.writes (asked_by (map string_bytes words.now)) library.old library.new sink.old sink.new result }
-    ensures by_one_worker { IfSome result.kept IsByOneWorker }
+    ensures alone { IfSome result.kept IsAloneAsAsked }
 {
     match read(alloc, words) {
         Err(OptionFault::NoMemory) => Done::out_of_memory(),
         Err(OptionFault::Words | OptionFault::Range) => answer_usage(sink),
-        Ok(options) => ruby_alone(alloc, options, library, sink),
+        Ok(options) => answer_options(alloc, &ByWorkers { rt, gate }, options, library, sink),
     }
 }
 
 /// Answers what the words of a command line ask for, which are those after the program's name, over a library, and writes
 /// its text to a sink. For the statuses see `Answer` and `ruby_alone`.
 ///
-/// The runtime and the gate are for the workers of runs by several threads, which no words ask for yet.
+/// A run for which workers were asked is made by them: each in a thread where one can be made, and else on the calling thread, one after
+/// the other. They wait for each other by the runtime, and each passes the gate before it takes what there is to do, when it has posted
+/// a transition, and when it has given its controller back.
 pub fn ruby<R: Threads + Wait + Sync, L: Library, S: Sink, G: Gate + Sync>(
-    _rt: &R,
+    rt: &R,
     alloc: Global,
     words: &[String],
     library: &mut L,
     sink: &mut S,
-    _gate: &G,
+    gate: &G,
 ) -> Done
     // All that the call does: it reads what it must, and writes the text of the right answer, up to a fault.
     ensures answered { IsAnswered L.reads S.writes (asked_by (map string_bytes words.now)) library.old library.new sink.old sink.new result }
@@ -66,9 +71,9 @@ pub fn ruby<R: Threads + Wait + Sync, L: Library, S: Sink, G: Gate + Sync>(
     ensures causes { IsCaused (L.files library.old) (asked_by (map string_bytes words.now)) (Rose (L.faults library.old) (L.faults library.new)) (Rose (S.faults sink.old) (S.faults sink.new)) result }
     ensures complete { IsComplete (L.files library.old) (asked_by (map string_bytes words.now)) (Rose (L.faults library.old) (L.faults library.new)) (Rose (S.faults sink.old) (S.faults sink.new)) result }
 
-    // A fact of runs on one thread.
-    ensures by_one_worker { IfSome result.kept IsByOneWorker }
+    // A fact of runs for which no workers were asked.
+    ensures by_one_worker { IfSome result.kept IsAloneAsAsked }
 {
     clauses_follow::<L, S>();
-    answer_words(alloc, words, library, sink)
+    answer_words(rt, alloc, words, library, sink, gate)
 }

@@ -1,20 +1,21 @@
-// The top call on one thread.
+// The top call, by whatever makes runs, and on one thread.
 ghost use Rattle.std.specs.Prelude.{◌≡◌, ◌≢◌, Some, IfSome, IsUtf8};
 ghost use Rattle.ruby_outside.specs.Prelude.{Rose};
-ghost use Rattle.ruby_answers.specs.Prelude.{IsAnswered, IsReadOnce, IsWokenOnce, IsMessageAccount, IsInvalidExactly, IsTallied, IsOnlyAnswer, IsAsAsked, IsAsWritten, IsCaused, IsComplete, IsByOneWorker, IsWholeRun};
+ghost use Rattle.ruby_answers.specs.Prelude.{IsAnswered, IsReadOnce, IsWokenOnce, IsMessageAccount, IsInvalidExactly, IsTallied, IsOnlyAnswer, IsAsAsked, IsAsWritten, IsCaused, IsComplete, IsAloneAsAsked, IsByOneWorker, IsWholeRun};
 ghost use Rattle.ruby_options.specs.Prelude.{IsWithin};
 ghost use Rattle.ruby_options.specs.declared.options.Command.TheVariants.{Code};
 
 use crate::{Done, Options};
-use ruby_answers::{Maker, WalkMaker, clauses_follow, find_answer, text_journal, write_answer};
+use ruby_answers::{ByOne, Maker, Runner, WalkMaker, clauses_follow, find_answer, text_journal, write_answer};
 use ruby_base::NoMemory;
 use ruby_outside::{Library, Sink};
 use std::alloc::Global;
 
-// Answers what the options ask for, as `alone_by`. All that the answer needs is found before anything is written.
-fn answer_options<M: Maker, L: Library, S: Sink>(
+/// Answers what the options ask for over a library, and writes its text to a sink, as `ruby`. All that the answer needs is found before
+/// anything is written.
+pub(crate) fn answer_options<R: Runner, L: Library, S: Sink>(
     alloc: Global,
-    maker: &M,
+    runner: &R,
     options: Options,
     library: &mut L,
     sink: &mut S,
@@ -24,9 +25,9 @@ fn answer_options<M: Maker, L: Library, S: Sink>(
     requires command { options.command ≢ Code }
     ensures answered { IsAnswered L.reads S.writes (Some options) library.old library.new sink.old sink.new result }
     ensures reads_once { IsReadOnce L.reads options library.old library.new }
-    ensures by_one_worker { IfSome result.kept IsByOneWorker }
+    ensures alone { IfSome result.kept IsAloneAsAsked }
 {
-    match find_answer(alloc, maker, options, library) {
+    match find_answer(alloc, runner, options, library) {
         Err(NoMemory) => Done::out_of_memory(),
         Ok(answer) => match text_journal(alloc, &answer) {
             Err(NoMemory) => Done::out_of_memory(),
@@ -50,6 +51,7 @@ pub fn alone_by<M: Maker, L: Library, S: Sink>(
     requires names { IsUtf8 options.protocol × IsUtf8 options.topology }
     requires within { IsWithin options }
     requires command { options.command ≢ Code }
+    requires alone { options.workers ≡ 0 }
 
     // All that the call does: it reads the protocol's files, none twice, and for a run over a topology's file that file after them,
     // and writes the text of the right answer, up to a fault.
@@ -72,13 +74,13 @@ pub fn alone_by<M: Maker, L: Library, S: Sink>(
     ensures by_one_worker { IfSome result.kept IsByOneWorker }
 {
     clauses_follow::<L, S>();
-    answer_options(alloc, maker, options, library, sink)
+    answer_options(alloc, &ByOne { maker }, options, library, sink)
 }
 
 /// Answers what the options ask for over a library, and writes its text to a sink. It waits for nobody and returns.
 ///
 /// The options are within the bounds of the command line, and for a generated protocol all have their defaults. They don't ask for
-/// the code of a protocol, which no words ask for either.
+/// workers, nor for the code of a protocol, which no words ask for either.
 ///
 /// The status is that of the answer, as at `Answer`; or it is 7, where the sink met a fault, and then a beginning of the text
 /// is written; or 8, where memory ran out, and then nothing is.
@@ -91,6 +93,7 @@ pub fn ruby_alone<L: Library, S: Sink>(
     requires names { IsUtf8 options.protocol × IsUtf8 options.topology }
     requires within { IsWithin options }
     requires command { options.command ≢ Code }
+    requires alone { options.workers ≡ 0 }
 
     // All that the call does: it reads the protocol's files, none twice, and for a run over a topology's file that file after them,
     // and writes the text of the right answer, up to a fault.

@@ -1,3 +1,4 @@
+use Rattle.ruby_cli.proofs.Alone.{alone_asked}
 use Rattle.ruby_cli.proofs.top.alone_by.Goals as goal
 
 pub returns-clause-record_is_a_run : goal.returns-clause-record_is_a_run
@@ -39,3 +40,8 @@ returns-clause-causes g c =
 pub returns-clause-complete : goal.returns-clause-complete
 returns-clause-complete g c =
     (c.clauses_follow.ensures _ _ _ _ _ _ c.requires.within c.answer_options.ensures.answered).complete
+
+pub returns-clause-by_one_worker : goal.returns-clause-by_one_worker
+returns-clause-by_one_worker g c =
+    alone_asked (g.L.Library.files c.args.library.now) c.args.options c.requires.alone c.answer_options.result.kept
+    (c.clauses_follow.ensures _ _ _ _ _ _ c.requires.within c.answer_options.ensures.answered).as_asked c.answer_options.ensures.alone
