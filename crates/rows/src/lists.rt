@@ -1,10 +1,10 @@
 // The lists of rows, each a file with a row in each line.
 use crate::faults::said;
 use crate::row::add;
-use crate::{faults, table};
+use crate::{faults, table, together};
 use example_texts::RowText;
 use ruby_base::NoMemory;
-use ruby_outside::{Got, Library};
+use ruby_outside::{Got, Library, OpenGate};
 use std::alloc::Global;
 use std::sync::Wait;
 use std::thread::Threads;
@@ -32,7 +32,7 @@ pub(crate) fn add_words(
     Ok(())
 }
 
-// Adds the row of a line: of a call with planned faults, or of one over the library.
+// Adds the row of a line: of a call with planned faults, of one by workers who are held up, or of one over the library.
 fn add_line<R: Threads + Wait + Sync, L: Library>(
     rt: &R,
     rows: &mut RowText,
@@ -43,9 +43,10 @@ fn add_line<R: Threads + Wait + Sync, L: Library>(
     match add_words(rows.alloc(), line, &mut words) {
         Ok(()) => match said(words.as_slice()) {
             Some(planned) => faults::add_row(rt, rows, line, &planned, words.as_slice(), library),
+            None if together::add_row(rt, rows, line, words.as_slice(), library) => {}
             None => add(
                 rows,
-                table::row(rt, rows.alloc(), line, words.as_slice(), library),
+                table::row(rt, rows.alloc(), line, words.as_slice(), library, &OpenGate),
             ),
         },
         Err(NoMemory) => rows.lose(),

@@ -5,7 +5,7 @@ ghost use Rattle.rows.specs.Prelude.{IsRow};
 use crate::row::row_of;
 use ruby_base::{NoMemory, Seq, Text};
 use ruby_cli::{Done, ruby};
-use ruby_outside::{Library, MemSink, OpenGate};
+use ruby_outside::{Gate, Library, MemSink};
 use std::alloc::Global;
 use std::sync::Wait;
 use std::thread::Threads;
@@ -22,18 +22,19 @@ pub(crate) fn end_of(done: Done) -> (u8, bool)
     end
 }
 
-/// Makes the call with these words over a library, and answers what is printed of it.
-pub(crate) fn row<R: Threads + Wait + Sync, L: Library>(
+/// Makes the call with these words over a library, by workers who pass this gate, and answers what is printed of it.
+pub(crate) fn row<R: Threads + Wait + Sync, L: Library, G: Gate + Sync>(
     rt: &R,
     alloc: Global,
     line: &str,
     words: &[String],
     library: &mut L,
+    gate: &G,
 ) -> Result<Text, NoMemory>
     ensures { IfOk result (IsRow L.reads ROOM line.now (map string_bytes words.now) library.old library.new) }
 {
     let mut sink = MemSink::new(alloc, Seq::new(alloc), ROOM, ROOM)?;
-    let done = ruby(rt, alloc, words, library, &mut sink, &OpenGate);
+    let done = ruby(rt, alloc, words, library, &mut sink, gate);
     let end = end_of(done);
     let row = row_of(alloc, line, sink.bytes(), end.0);
     drop(sink);
