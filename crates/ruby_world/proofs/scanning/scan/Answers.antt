@@ -1,8 +1,8 @@
 use Rattle.ruby_world.proofs.HeldScans.{held-in-same, same-then, scanned-same}
 use Rattle.ruby_world.proofs.scanning.scan.Goals as goal
 
-pub scan_in-requires : goal.scan_in-requires
-scan_in-requires g c κs within =
+pub scan_in-requires-clause-held : goal.scan_in-requires-clause-held
+scan_in-requires-clause-held g c κs within =
     held-in-same g.D.Driver.least g.D.Driver.drive (g.P.Protocol.serves c.args.protocol.now) c.args.held.now c.take_scratch.new.held c.take_scratch.ensures
     c.requires.held
 

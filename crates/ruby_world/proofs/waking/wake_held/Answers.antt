@@ -1,7 +1,8 @@
 use Rattle.std.proofs.Common.{◌≡◌, ◌∙◌, ℕ, List, ap, sym, subst}
 use Rattle.slicc_ast.specs.declared.tree.item.Tree.{Tree}
+use Rattle.ruby_world.specs.declared.scanning.Scanned.{Scanned}
 use Rattle.ruby_world.specs.declared.world.Held.{Held}
-use Rattle.ruby_world.specs.Prelude.{Holds, InWorld, IsOnlyHeld}
+use Rattle.ruby_world.specs.Prelude.{Holds, InWorld, IsOnlyHeld, IsScanEnded, IsScanned}
 use Rattle.ruby_world.proofs.HeldScans.{held-in}
 use Rattle.ruby_world.proofs.Stays.{holds-same}
 use Rattle.ruby_world.proofs.Views.{alone-none, done-nobody, ends-there, fire-only, fires-on, rests-held, stays-none}
@@ -32,8 +33,8 @@ scans-preserved g c =
       stays = both.1;
     }
 
-pub scan-requires : goal.scan-requires
-scan-requires g c κs within =
+pub scan-requires-clause-held : goal.scan-requires-clause-held
+scan-requires-clause-held g c κs within =
     let serves : List Tree → Type 0 = g.P.Protocol.serves c.args.protocol.now in
     let run = c.law.ensures.run in
     let by =

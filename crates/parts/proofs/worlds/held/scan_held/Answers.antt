@@ -5,8 +5,8 @@ use Rattle.ruby_world.proofs.HeldScans.{held-in}
 use Rattle.ruby_world.proofs.Stays.{holds-same}
 use Rattle.parts.proofs.worlds.held.scan_held.Goals as goal
 
-pub scan-requires : goal.scan-requires
-scan-requires g c κs within =
+pub scan-requires-clause-held : goal.scan-requires-clause-held
+scan-requires-clause-held g c κs within =
     let by =
     held-in g.D.Driver.least g.D.Driver.drive (g.P.Protocol.serves c.args.protocol.now) c.args.world.now c.args.worker c.args.held c.requires.serves
     c.lawful.ensures.fits c.lawful.ensures.cycles c.lawful.ensures.enough c.lawful.ensures.run.0 c.lawful.ensures.run.1 c.requires.holds in
