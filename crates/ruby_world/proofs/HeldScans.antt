@@ -1,5 +1,5 @@
 -- A scan of a controller that is held: it begins as a draft may, and what code has done as a round is what the run has of it.
-use Rattle.std.proofs.Common.{◌≡◌, ◌≤◌, ℕ, Bool, true, false, cond, List, Ok, Some, refl, sym, ◌∙◌, ap, subst, slice_get, arith}
+use Rattle.std.proofs.Common.{◌≡◌, ◌≤◌, ℕ, Bool, true, false, cond, List, Ok, Some, refl, sym, ◌∙◌, ap, subst, slice_get, length, arith}
 use Rattle.std.proofs.lemmas.Option.{same_Some}
 use Rattle.slicc_ast.specs.declared.tree.item.Tree.{Tree}
 use Rattle.ctl_face.specs.declared.parcel.Parcel.{Parcel}
@@ -25,10 +25,11 @@ use Rattle.body_meaning.specs.Prelude.{IsRoundOf, left_idle}
 use Rattle.sequencer.specs.Prelude.{Drive, Seat}
 use Rattle.world_state.specs.Prelude.{ended, rested}
 use Rattle.ruby_world.specs.declared.world.Held.{Held}
-use Rattle.ruby_world.specs.Prelude.{Holds, IsSameHeld, IsScanEnded, IsScanFired, ctl_in, IsWorldOf, WorldView, rules_in, setting_in}
+use Rattle.ruby_world.specs.Prelude.{Holds, IsHeldIn, IsSameHeld, IsScanEnded, IsScanFired, ctl_in, IsWorldOf, WorldView, rules_in, setting_in}
 use Rattle.ruby_world.specs.declared.scanning.Scanned.{Scanned}
 use Rattle.ruby_world.specs.declared.scanning.Scanned.TheVariants as came
 use Rattle.ruby_world.specs.Scanned.{IsScanned, begun}
+use Rattle.ruby_world.proofs.Stays.{holds-same}
 
 -- the controller of a scan that rests
 rests : (before after : LocalView) (b : Bool) → after.acts.again ≡ b → (left_idle before after).ctl ≡ rested b before.now before.ctl
@@ -190,3 +191,33 @@ scanned-same drive v h g same (came.Fired o) is = record {
   fits = held-same (λ c x n. IsOutcomeFor o x) h g same is.fits;
 }
 scanned-same drive v h g same (came.Ended e stalled) is = held-same (λ c x n. Ends (rules_in drive v) c n x (ended stalled n x e) e) h g same is
+
+module _ {D : Type 0} (least : D → ℕ) (drive : D → List Seat → ℕ → Drive D) (serves : List Tree → Type 0) where
+  -- in this world
+  abbrev pub held-in : (v : WorldView D) (worker : ℕ) (h : Held) → serves v.trees → FitsPlan v.trees v.topology → v.limits.cycles ≤ last_cycle
+      → least v.opening ≤ length v.topology.seats → (w : World Ctl D) → IsWorldOf drive v w → Holds drive v worker h → IsHeldIn least drive serves h
+  held-in v worker h served fits cycles enough w is holds = record {
+    view = v;
+    worker = worker;
+    served = served;
+    fits = fits;
+    cycles = cycles;
+    enough = enough;
+    world = w;
+    is = is;
+    holds = holds;
+  }
+
+  -- and so is what is held, but for room
+  abbrev pub held-in-same : (h g : Held) → IsSameHeld h g → IsHeldIn least drive serves h → IsHeldIn least drive serves g
+  held-in-same h g same by = record {
+    view = by.view;
+    worker = by.worker;
+    served = by.served;
+    fits = by.fits;
+    cycles = by.cycles;
+    enough = by.enough;
+    world = by.world;
+    is = by.is;
+    holds = holds-same drive by.view by.worker h g same by.holds;
+  }

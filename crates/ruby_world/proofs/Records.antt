@@ -1,14 +1,14 @@
 -- The record of a world that has ended.
-use Rattle.std.proofs.Common.{◌≡◌, ℕ, List, [], ◌∷◌, Some, sym, ◌∙◌, ap, subst}
+use Rattle.std.proofs.Common.{◌≡◌, ℕ, List, Some, sym, ◌∙◌, ap, subst}
 use Rattle.slicc_ast.specs.declared.tree.item.Tree.{Tree}
 use Rattle.ctl_face.specs.declared.parcel.Parcel.{Parcel}
 use Rattle.run_journal.specs.declared.entry.Entry.{Entry}
 use Rattle.run_journal.specs.declared.event.Event.{Event}
-use Rattle.run_journal.specs.Prelude.{AreFinals, tally}
+use Rattle.run_journal.specs.Prelude.{AreFinals}
 use Rattle.protocol_runs.specs.Prelude.{account, IsAlone, Rules, IsRun, World, rules}
 use Rattle.ruby_topology.specs.declared.topology.Topology.{Topology}
 use Rattle.ctl_face.specs.Prelude.{Ctl}
-use Rattle.protocol_meaning.specs.Prelude.{meaning_of, setting_of}
+use Rattle.protocol_meaning.specs.Prelude.{meaning_of, setting_of, tallies_below, workers_for}
 use Rattle.sequencer.specs.Prelude.{Drive, Seat}
 use Rattle.protocol_meaning.specs.declared.record.RunRecord.{RunRecord}
 use Rattle.protocol_meaning.specs.Records as records
@@ -32,7 +32,7 @@ module _ {D : Type 0} (drive : D → List Seat → ℕ → Drive D) where
     same = same-run v r plan t seed cycles limit
 
     pub is-record : (w : World Ctl D) → IsWorldOf drive v w → r.journal ≡ v.journal → AreFinals r.journal r.finals
-        → r.account ≡ account (rules_in drive v) v.journal w.places → w.verdict ≡ Some r.verdict → r.tallies ≡ tally 0 v.history ∷ []
+        → r.account ≡ account (rules_in drive v) v.journal w.places → w.verdict ≡ Some r.verdict → r.tallies ≡ tallies_below (workers_for r.options.workers) v.history
         → records.IsRecordOf drive v.opening r w
     is-record w is journal finals accounted verdict tallies = record {
       run =
@@ -45,7 +45,7 @@ module _ {D : Type 0} (drive : D → List Seat → ℕ → Drive D) where
           ∙ ap (λ (x : Rules Ctl Parcel D). account x v.journal w.places) (sym same)
           ∙ ap (λ (j : List Entry). account (records.rules_in drive v.opening r) j w.places) (sym journal);
       verdict = verdict;
-      tallies = tallies ∙ ap (λ (h : List Event). tally 0 h ∷ []) (sym history);
+      tallies = tallies ∙ ap (λ (h : List Event). tallies_below (workers_for r.options.workers) h) (sym history);
     }
 
     pub is-alone : IsAlone (rules_in drive v) v.history → IsAlone (records.rules_in drive v.opening r) r.history

@@ -1,18 +1,19 @@
 -- What it means that a worker holds a controller of a world: it has the controller as it was when it was taken, with the worker's own
 -- events on it alone, and what was sent to it since waits for it; it isn't finished in its cycle; all that is held beside the store is
 -- the world's; and there is room for the mark of a wake-up that ends. And what may be made of it: a scan of it has fired, or has ended its
--- wake-up.
-use Rattle.std.specs.Prelude.{◌≡◌, ℕ, Some, List}
+-- wake-up. A scan goes by what is held alone: it needs that some worker holds it so in some world.
+use Rattle.std.specs.Prelude.{◌≡◌, ◌≤◌, ℕ, Some, List, length}
+use Rattle.slicc_ast.specs.declared.tree.item.Tree.{Tree}
 use Rattle.run_journal.specs.declared.entry.End.{End}
 use Rattle.protocol_runs.specs.Prelude.{Ends, Fired, FitsRun, IsHeldBy, SuitsReceiver, World, acts_told, machine_of, messages_since_take}
-use Rattle.ctl_face.specs.Prelude.{Ctl}
+use Rattle.ctl_face.specs.Prelude.{Ctl, last_cycle}
 use Rattle.ctl_store.specs.declared.outcome.Outcome.{Outcome}
 use Rattle.ctl_store.specs.Prelude.{ctl_of, HasRoomForMark, IsSameStore, IsOutcomeFor, note_of, outcome_acts, outcome_ctl}
-use Rattle.protocol_meaning.specs.Prelude.{ranges_of}
+use Rattle.protocol_meaning.specs.Prelude.{FitsPlan, ranges_of}
 use Rattle.world_state.specs.declared.place.Kept.{Kept}
 use Rattle.world_state.specs.Prelude.{made_for, ended, IsMadeFor}
 use Rattle.ruby_world.specs.declared.world.Held.{Held}
-use Rattle.ruby_world.specs.Worlds.{InWorld, WorldView, rules_in, setting_in}
+use Rattle.ruby_world.specs.Worlds.{InWorld, IsWorldOf, WorldView, rules_in, setting_in}
 use Rattle.sequencer.specs.Prelude.{Drive, Seat}
 
 -- what goes back to the world
@@ -64,3 +65,15 @@ module _ {D : Type 0} (drive : D → List Seat → ℕ → Drive D) (v : WorldVi
   -- the scan of it ends the wake-up so, and has stalled a transition as what is held says
   abbrev pub IsScanEnded : Held → End → Type 0
   IsScanEnded h e = Ends (rules_in drive v) h.controller h.cycle (ctl_in h) (ended h.stalled h.cycle (ctl_in h) e) e
+
+-- some worker holds it so in some world of a run, which scans that serve these protocols serve
+pub record IsHeldIn {D : Type 0} (least : D → ℕ) (drive : D → List Seat → ℕ → Drive D) (serves : List Tree → Type 0) (h : Held) : Type 0 where
+  pub view : WorldView D
+  pub worker : ℕ
+  pub served : serves view.trees
+  pub fits : FitsPlan view.trees view.topology
+  pub cycles : view.limits.cycles ≤ last_cycle
+  pub enough : least view.opening ≤ length view.topology.seats
+  pub world : World Ctl D
+  pub is : IsWorldOf drive view world
+  pub holds : Holds drive view worker h

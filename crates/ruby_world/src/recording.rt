@@ -1,11 +1,9 @@
 //! The record of a run that has ended.
-ghost use Rattle.std.specs.Prelude.{◌≡◌, ◌∷◌, [], IfOk, Ok};
-ghost use Rattle.run_journal.specs.Prelude.{tally};
+ghost use Rattle.std.specs.Prelude.{◌≡◌, IfOk, Ok};
 ghost use Rattle.protocol_runs.specs.Prelude.{account, IsAlone, HasEnded};
-ghost use Rattle.protocol_meaning.specs.Prelude.{IsRecordOf, IsWholeRunBy, rules_in as rules_of};
+ghost use Rattle.protocol_meaning.specs.Prelude.{IsRecordOf, IsWholeRunBy, rules_in as rules_of, tallies_below, workers_for};
 ghost use Rattle.ruby_world.specs.Prelude.{InWorld, rules_in};
 
-use crate::waking::WORKER;
 use crate::world::World;
 use protocol_meaning::RunRecord;
 use ruby_base::Seq;
@@ -28,20 +26,46 @@ pub fn world_after<D: Driver>(
     }
 }
 
-// The tally of the one worker of a run that has ended, and where its messages have gone.
-fn sums<D: Driver>(alloc: Global, ended: &World<D>) -> Result<(Seq<Tally>, Account), NoMemory>
-    requires { InWorld D.drive ended.now HasEnded }
-    ensures tallies { IfOk result (λ s. s.0 ≡ tally 0 ended.now.history ∷ []) }
+// How many workers make a run for which this many were asked.
+fn workers_for(asked: u32) -> u32
+    ensures { result ≡ workers_for asked }
+{
+    if asked == 0 { 1 } else { asked }
+}
+
+// The tallies of the workers below a number, in increasing number.
+fn tallies_below<D: Driver>(
+    alloc: Global,
+    ended: &World<D>,
+    workers: u32,
+) -> Result<Seq<Tally>, NoMemory>
+    ensures { IfOk result (λ tallies. tallies ≡ tallies_below workers ended.now.history) }
+{
+    let mut tallies = Seq::new(alloc);
+    for worker in 0..workers {
+        tallies.push(ended.tally(worker))?;
+    }
+    Ok(tallies)
+}
+
+// The tallies of all workers of a run that has ended, for which this many were asked, and where its messages have gone.
+fn sums<D: Driver>(
+    alloc: Global,
+    ended: &World<D>,
+    asked: u32,
+) -> Result<(Seq<Tally>, Account), NoMemory>
+    requires ended { InWorld D.drive ended.now HasEnded }
+    ensures tallies { IfOk result (λ s. s.0 ≡ tallies_below (workers_for asked) ended.now.history) }
     ensures account { IfOk result (λ s. InWorld D.drive ended.now (λ w.
         s.1 ≡ account (rules_in D.drive ended.now) ended.now.journal w.places)) }
 {
     let account = ended.account();
-    let mut tallies = Seq::new(alloc);
-    tallies.push(ended.tally(WORKER))?;
+    let tallies = tallies_below(alloc, ended, workers_for(asked))?;
     Ok((tallies, account))
 }
 
-/// The record of a run that one worker has brought to its end: with these options, which have the bounds of the run.
+/// The record of a run that workers have brought to its end: with these options, which have the bounds of the run and how many workers
+/// were asked for.
 pub fn into_record<D: Driver>(
     alloc: Global,
     ended: World<D>,
@@ -62,7 +86,7 @@ pub fn into_record<D: Driver>(
         → IsAlone (rules_of D.drive ended.opening r) r.history) }
 {
     ended.law();
-    let sums = sums(alloc, &ended)?;
+    let sums = sums(alloc, &ended, options.workers)?;
     let verdict = ended.ending();
     let (plan, topology, history, journal, finals) = ended.into_parts(alloc)?;
     Ok(RunRecord {

@@ -1,14 +1,11 @@
 //! A scan of a controller that is held.
-ghost use Rattle.std.specs.Prelude.{◌≡◌, IfOk};
-ghost use Rattle.ctl_store.specs.Prelude.{view_of};
-ghost use Rattle.ruby_world.specs.Scanned.{IsScanned, begun};
-ghost use Rattle.ruby_world.specs.Prelude.{Holds, IsSameHeld};
+ghost use Rattle.std.specs.Prelude.{IfOk};
+ghost use Rattle.ruby_world.specs.Prelude.{IsHeldIn, IsSameHeld, IsScanned};
 
-use crate::world::{Held, World};
+use crate::world::Held;
 use body_meaning::RoundEnd;
 use ctl_store::{Draft, Outcome, Scratch};
-use protocol_meaning::{Protocol, meanings_are_lawful, settings_are_lawful};
-use protocol_runs::controllers_fit;
+use protocol_meaning::{Protocol, settings_are_lawful};
 use ruby_value::NoMemory;
 use run_journal::End;
 use sequencer::Driver;
@@ -24,40 +21,19 @@ pub enum Scanned {
     Ended { end: End, stalled: bool },
 }
 
-// The draft of a scan of a controller that is held.
-fn draft<'a, D: Driver>(
-    scratch: Scratch,
-    world: &World<D>,
-    worker: u32,
-    held: &'a Held,
-) -> Draft<'a>
-    requires { Holds D.drive world.now worker held.now }
-    ensures { view_of result ≡ begun held.now }
-{
-    let _worker = worker;
-    world.law();
-    settings_are_lawful::<D>();
-    meanings_are_lawful();
-    controllers_fit::<D>();
-    Draft::on(scratch, &held.store, &held.routes, held.seed, held.cycle)
-}
-
-// A scan of a controller that the worker holds, which keeps what it changes in these lists. They are left where nothing has fired.
+// A scan of a controller that is held, which keeps what it changes in these lists. They are left where nothing has fired.
 fn scan_in<P: Protocol, D: Driver>(
     alloc: Global,
     scratch: Scratch,
     protocol: &P,
-    world: &World<D>,
-    worker: u32,
     held: &Held,
 ) -> Result<(Scanned, Option<Scratch>), NoMemory>
-    requires serves { P.serves protocol.now world.now.trees }
-    requires holds { Holds D.drive world.now worker held.now }
-    ensures { IfOk result (λ r. IsScanned D.drive world.now held.now r.0) }
+    requires held { IsHeldIn D.least D.drive (P.serves protocol.now) held.now }
+    ensures { IfOk result (λ r. (by : IsHeldIn D.least D.drive (P.serves protocol.now) held.now)
+        → IsScanned D.drive by.view held.now r.0) }
 {
-    world.law();
     settings_are_lawful::<D>();
-    let mut draft = draft(scratch, world, worker, held);
+    let mut draft = Draft::on(scratch, &held.store, &held.routes, held.seed, held.cycle);
     draft.law();
     let end = protocol.round(alloc, held.machine, &mut draft, held.fired, held.limit)?;
     let stalled = draft.stalled();
@@ -87,23 +63,21 @@ fn put_scratch(held: &mut Held, scratch: Option<Scratch>)
     }
 }
 
-/// A scan of a controller that the worker holds. It keeps what it changes in the lists that the store's last scan has left, and
-/// what is held stays as it is but for these, also where there is no memory. What it ended with is for `fire` and for `finish`.
+/// A scan of a controller that some worker holds in a world of a run, by what is held alone. It keeps what it changes in the lists that
+/// the store's last scan has left, and what is held stays as it is but for these, also where there is no memory. What it ended with is for
+/// `fire` and for `finish`, in each world in which the controller is held so.
 pub fn scan<P: Protocol, D: Driver>(
     alloc: Global,
     protocol: &P,
-    world: &World<D>,
-    worker: u32,
     held: &mut Held,
 ) -> Result<Scanned, NoMemory>
-    requires serves { P.serves protocol.now world.now.trees }
-    requires holds { Holds D.drive world.now worker held.old }
+    requires held { IsHeldIn D.least D.drive (P.serves protocol.now) held.old }
     ensures same { IsSameHeld held.old held.new }
-    ensures holds { Holds D.drive world.now worker held.new }
-    ensures scanned { IfOk result (IsScanned D.drive world.now held.new) }
+    ensures scanned { IfOk result (λ s. (by : IsHeldIn D.least D.drive (P.serves protocol.now) held.old)
+        → IsScanned D.drive by.view held.new s) }
 {
     let scratch = take_scratch(alloc, held)?;
-    let come = scan_in(alloc, scratch, protocol, world, worker, held)?;
+    let come = scan_in::<P, D>(alloc, scratch, protocol, held)?;
     let (scanned, left) = come;
     put_scratch(held, left);
     Ok(scanned)

@@ -29,7 +29,7 @@ fn wake_held<P: Protocol, D: Driver>(
 {
     'scans: loop {
         world.law();
-        match scan(alloc, protocol, world, WORKER, &mut held)? {
+        match scan::<P, D>(alloc, protocol, &mut held)? {
             Scanned::Fired(outcome) => match world.fire(WORKER, &mut held, outcome) {
                 Ok(_) => {}
                 Err((error, _)) => return Err(error),

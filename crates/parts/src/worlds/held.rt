@@ -165,7 +165,8 @@ fn scan_held<P: Protocol, D: Driver>(
     ensures holds { IfOk result (IsHand D.drive world.new worker) }
     ensures leaves { OnOk result (LeavesOthers D.drive worker world.old world.new) }
 {
-    let come = scan(alloc, protocol, world, worker, &mut held)?;
+    lawful(world);
+    let come = scan::<P, D>(alloc, protocol, &mut held)?;
     match come {
         Scanned::Fired(outcome) => fire(world, worker, held, outcome),
         Scanned::Ended { end: how, stalled } => {
