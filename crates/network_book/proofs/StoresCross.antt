@@ -1,8 +1,8 @@
 -- What a world is made of may go between threads: the stores of controllers, what has happened, and a protocol's plan, which is shared.
 -- Whatever one of them owns is its own, so that a search finds it of each type by those of its parts.
-use denote.Builtin.{u8}
+use denote.Builtin.{bool, u8, u64}
 use denote.Param.Send.{IsSend, IsSync, sendable}
-use denote.Param.SendFields.{declared_send, declared_sync}
+use denote.Param.SendFields.{declared_send, declared_sync, variants_send}
 use Rattle.std.proofs.Crossing.{crosses, Box-send}
 use Rattle.std.proofs.MapsCrossing.{crosses as maps}
 use Rattle.ruby_base.specs.contracts.seq.Seq as Seq
@@ -44,6 +44,8 @@ use Rattle.run_journal.specs.contracts.verdict.Verdict as Verdict
 use Rattle.run_journal.specs.contracts.event.Event as Event
 use Rattle.run_journal.specs.contracts.writer.JournalWriter as JournalWriter
 use Rattle.world_state.specs.contracts.book.Book as Book
+use Rattle.world_state.specs.contracts.place.Kept as Kept
+use Rattle.world_state.specs.contracts.place.Keeper as Keeper
 use Rattle.world_state.specs.contracts.place.Place as Place
 use Rattle.world_state.specs.contracts.seat.SeatAt as SeatAt
 use Rattle.ruby_symbols.specs.contracts.machine.TableSymbol as TableSymbol
@@ -217,7 +219,7 @@ parts-send = declared_send Parts.the_type (
 
 pub store-send : IsSend Store.the_row
 store-send = record {
-  owned = λ d vs x. ((λ vss. (tt, (parts-send.owned x.0.parts vss.0, tt))), tt);
+  owned = λ d vs x. ((λ vss. (tt, ((Box-send Parts.the_row parts-send).owned x.0.parts vss.0, tt))), tt);
   leaving = λ k d w. tt;
 }
 
@@ -233,8 +235,41 @@ journalwriter-send = search (sendable, crosses, maps, verdict-send) depth 60 fit
 pub book-send : IsSend Book.the_row
 book-send = search (sendable, crosses, maps, event-send, journalwriter-send) depth 60 fits 20000
 
+pub kept-send : IsSend Kept.the_row
+kept-send = declared_send Kept.the_type (
+  search (sendable, crosses, store-send) depth 30 fits 3000,
+  (
+    search (sendable, crosses, routes-send) depth 30 fits 3000,
+    tt,
+  ),
+)
+
+pub keeper-send : IsSend Keeper.the_row
+keeper-send = variants_send Keeper.enum (
+  (
+    search (sendable, crosses, kept-send) depth 30 fits 3000,
+    tt,
+  ),
+  (
+    (
+      search (sendable, crosses) depth 20,
+      tt,
+    ),
+    tt,
+  ),
+)
+
+bool-send : IsSend bool
+bool-send = search sendable
+
+u64-send : IsSend u64
+u64-send = search sendable
+
 pub place-send : IsSend Place.the_row
-place-send = search (sendable, crosses, maps, store-send, routes-send) depth 60 fits 20000
+place-send = record {
+  owned = λ d vs x. ((λ vss. (tt, (keeper-send.owned x.0.keeper vss.0, (bool-send.owned x.0.finished vss.1.0, (u64-send.owned x.0.wake vss.1.1.0, tt))))), tt);
+  leaving = λ k d w. tt;
+}
 
 pub seatat-send : IsSend SeatAt.the_row
 seatat-send = search (sendable, crosses, maps) depth 60 fits 20000

@@ -1,0 +1,5 @@
+pub mod Crossing
+pub mod Meetings
+pub mod Owners
+pub mod Scans
+pub mod Workings
